@@ -1,0 +1,4 @@
+pub mod Walk
+pub mod Within
+pub mod Words
+pub mod Matrix

@@ -1,0 +1,306 @@
+-- Laws of the words of specs/Lists: each word at the empty list, at one element more in front, and at one more behind.
+use Prim.Native.Nat.{ℕ, zero, suc, _+_, _≤_, _<_, _-_}
+use mathlib.Core.Bool.{Bool, true, false, cond, _&&_, _||_, not, true≢false, false≢true}
+use mathlib.Core.List.{List, [], _∷_, _++_, map}
+use mathlib.Core.Path.{_≡_, refl, sym, _∙_, ap}
+use native.Mathlib.Omega.{arith}
+use native.Mathlib.Numerals.{add-one}
+use lib.Dec.{eqb}
+use lib.ListN.{length, getD, replicate}
+use borrow.Author.Tests.{eqb-true, eqb-false, eq-eqb, ne-eqb}
+use Rattle.lists.specs.Lists.{from, any, count, keep, total, member, without, place}
+use Rattle.lists.proofs.Tests.{case, never, and-left, and-right, not-true, or-false, or-assoc, false-by}
+
+-- from
+
+pub from-none : (i : ℕ) → from i 0 ≡ []
+unfolding from
+from-none i = refl
+
+pub from-suc : (i k : ℕ) → from i (suc k) ≡ i ∷ from (suc i) k
+unfolding from
+from-suc i k = refl
+
+-- one number more behind
+pub from-more : (i k : ℕ) → from i (k + 1) ≡ from i k ++ ((i + k) ∷ [])
+unfolding from
+from-more i zero = let h : i + 0 ≡ i = omega arith in rw h
+from-more i (suc k) =
+    let h : suc i + k ≡ i + suc k = omega arith in
+    rw add-one (ap (λ l. i ∷ l) (rw (add-one, h) at (from-more (suc i) k)))
+
+-- the first of those that are left
+pub from-left : (i n : ℕ) → i < n → from i (n - i) ≡ i ∷ from (i + 1) (n - (i + 1))
+from-left i n h =
+    let e : n - i ≡ suc (n - (i + 1)) = omega arith in
+    rw (e, from-suc, add-one)
+
+pub from-end : (i n : ℕ) → n ≤ i → from i (n - i) ≡ []
+from-end i n h = let e : n - i ≡ 0 = omega arith in rw (e, from-none)
+
+pub from-length : (i k : ℕ) → length (from i k) ≡ k
+unfolding from
+from-length i zero = refl
+from-length i (suc k) = ap suc (from-length (suc i) k)
+
+pub map-append : {A B : Type 0} (f : A → B) (xs ys : List A) → map f (xs ++ ys) ≡ map f xs ++ map f ys
+map-append f [] ys = refl
+map-append f (x ∷ xs) ys = ap (λ l. f x ∷ l) (map-append f xs ys)
+
+pub map-from-more : {A : Type 0} (f : ℕ → A) (k : ℕ) → map f (from 0 (k + 1)) ≡ map f (from 0 k) ++ (f k ∷ [])
+map-from-more f k = let h : 0 + k ≡ k = omega arith in rw (from-more 0 k, map-append f (from 0 k) ((0 + k) ∷ []), h)
+
+-- two lists of values at the same numbers
+pub map-from-same : {A : Type 0} (f g : ℕ → A) (k : ℕ) → ((i : ℕ) → i < k → f i ≡ g i) → map f (from 0 k) ≡ map g (from 0 k)
+map-from-same f g zero h = rw (from-none 0)
+map-from-same f g (suc k) h =
+    rw (← add-one k, map-from-more f k, map-from-more g k, h k (omega arith), map-from-same f g k (λ i l. h i (omega arith)))
+
+-- what f and g make of two runs of numbers from i on is equal only where the runs are, and f and g along them
+pub map-from : {A : Type 0} (f g : ℕ → A) (k l i : ℕ) → map f (from i k) ≡ map g (from i l)
+    → (k ≡ l) × ((j : ℕ) → i ≤ j → j < i + k → f j ≡ g j)
+unfolding from
+map-from f g zero zero i e = (refl, λ j h b. absurd (omega arith))
+map-from f g zero (suc l) i e = let z : _≡_ {A = ℕ} 0 1 = cc in absurd (omega arith)
+map-from f g (suc k) zero i e = let z : _≡_ {A = ℕ} 0 1 = cc in absurd (omega arith)
+map-from f g (suc k) (suc l) i e =
+    let head : f i ≡ g i = cc in
+    let w = map-from f g k l (suc i) (cc) in (
+      ap suc (w .0),
+      λ j h b. case (eqb j i) (λ q. rw (eqb-true j i q) head) (λ q. let n = eqb-false j i q in w .1 j (omega arith) (omega arith)),
+    )
+
+module _ {A : Type 0} where
+  -- any
+
+  pub any-nil : (p : A → Bool) → any p [] ≡ false
+  unfolding any
+  any-nil p = refl
+
+  pub any-cons : (p : A → Bool) (x : A) (xs : List A) → any p (x ∷ xs) ≡ (p x || any p xs)
+  unfolding any
+  any-cons p x xs = refl
+
+  pub any-append : (p : A → Bool) (xs ys : List A) → any p (xs ++ ys) ≡ (any p xs || any p ys)
+  unfolding any
+  any-append p [] ys = refl
+  any-append p (x ∷ xs) ys = rw (any-append p xs ys) (sym (or-assoc (p x) (any p xs) (any p ys)))
+
+  -- count
+
+  pub count-nil : (p : A → Bool) → count p [] ≡ 0
+  unfolding count
+  count-nil p = refl
+
+  pub count-cons : (p : A → Bool) (x : A) (xs : List A) → count p (x ∷ xs) ≡ cond (p x) 1 0 + count p xs
+  unfolding count
+  count-cons p x xs = case (p x) (λ e. rw (e, count) (omega arith)) (λ e. rw (e, count) (omega arith))
+
+  pub count-append : (p : A → Bool) (xs ys : List A) → count p (xs ++ ys) ≡ count p xs + count p ys
+  count-append p [] ys = rw count-nil (omega arith)
+  count-append p (x ∷ xs) ys = rw (count-cons p x (xs ++ ys), count-cons p x xs, count-append p xs ys) (omega arith)
+
+  pub count-most : (p : A → Bool) (xs : List A) → count p xs ≤ length xs
+  count-most p [] = rw count-nil (omega arith)
+  count-most p (x ∷ xs) =
+      rw (count-cons p x xs)
+      (case (p x) (λ e. rw e (omega (arith, count-most p xs))) (λ e. rw e (omega (arith, count-most p xs))))
+
+  pub count-same : (p q : A → Bool) (xs : List A) → ((x : A) → p x ≡ q x) → count p xs ≡ count q xs
+  count-same p q [] h = count-nil p ∙ sym (count-nil q)
+  count-same p q (x ∷ xs) h = rw (count-cons p x xs, count-cons q x xs, h x, count-same p q xs h)
+
+  pub count-all : (xs : List A) → count (λ x. true) xs ≡ length xs
+  count-all [] = count-nil (λ x. true)
+  count-all (x ∷ xs) = rw (count-cons (λ x. true) x xs, count-all xs) (omega arith)
+
+  -- keep
+
+  pub keep-nil : (p : A → Bool) → keep p [] ≡ []
+  unfolding keep
+  keep-nil p = refl
+
+  pub keep-true : (p : A → Bool) (x : A) (xs : List A) → p x ≡ true → keep p (x ∷ xs) ≡ x ∷ keep p xs
+  unfolding keep
+  keep-true p x xs e = rw (e, keep)
+
+  pub keep-false : (p : A → Bool) (x : A) (xs : List A) → p x ≡ false → keep p (x ∷ xs) ≡ keep p xs
+  unfolding keep
+  keep-false p x xs e = rw (e, keep)
+
+  pub keep-append : (p : A → Bool) (xs ys : List A) → keep p (xs ++ ys) ≡ keep p xs ++ keep p ys
+  keep-append p [] ys = rw keep-nil
+  keep-append p (x ∷ xs) ys =
+      case (p x)
+      (λ e. rw (keep-true p x (xs ++ ys) e, keep-true p x xs e, keep-append p xs ys))
+      (λ e. rw (keep-false p x (xs ++ ys) e, keep-false p x xs e, keep-append p xs ys))
+
+  pub keep-most : (p : A → Bool) (xs : List A) → length (keep p xs) ≤ length xs
+  keep-most p [] = rw keep-nil (omega arith)
+  keep-most p (x ∷ xs) =
+      case (p x)
+      (λ e. rw (keep-true p x xs e) (omega (arith, keep-most p xs)))
+      (λ e. rw (keep-false p x xs e) (omega (arith, keep-most p xs)))
+
+  -- what passes two tests, one after the other
+  pub keep-keep : (p q r : A → Bool) (xs : List A) → ((x : A) → r x ≡ (q x && p x)) → keep q (keep p xs) ≡ keep r xs
+  keep-keep p q r [] h = rw (keep-nil p, keep-nil q, keep-nil r)
+  keep-keep p q r (x ∷ xs) h =
+      case (p x)
+      (λ e. rw (keep-true p x xs e)
+      (case (q x)
+      (λ f. rw (keep-true q x (keep p xs) f, keep-true r x xs (h x ∙ rw (e, f)), keep-keep p q r xs h))
+      (λ f. rw (keep-false q x (keep p xs) f, keep-false r x xs (h x ∙ rw (e, f)), keep-keep p q r xs h))))
+      (λ e. rw (keep-false p x xs e, keep-false r x xs (h x ∙ false-and (q x) (p x) e), keep-keep p q r xs h))
+    where
+      false-and : (a b : Bool) → b ≡ false → (a && b) ≡ false
+      false-and true b e = e
+      false-and false b e = refl
+
+  -- total
+
+  pub total-nil : (f : A → ℕ) → total f [] ≡ 0
+  unfolding total
+  total-nil f = refl
+
+  pub total-cons : (f : A → ℕ) (x : A) (xs : List A) → total f (x ∷ xs) ≡ f x + total f xs
+  unfolding total
+  total-cons f x xs = refl
+
+  pub total-append : (f : A → ℕ) (xs ys : List A) → total f (xs ++ ys) ≡ total f xs + total f ys
+  total-append f [] ys = rw total-nil (omega arith)
+  total-append f (x ∷ xs) ys = rw (total-cons f x (xs ++ ys), total-cons f x xs, total-append f xs ys) (omega arith)
+
+  pub total-snoc : (f : A → ℕ) (xs : List A) (x : A) → total f (xs ++ (x ∷ [])) ≡ total f xs + f x
+  total-snoc f xs x = rw (total-append f xs (x ∷ []), total-cons f x [], total-nil f) (omega arith)
+
+  pub total-add : (f g : A → ℕ) (xs : List A) → total (λ x. f x + g x) xs ≡ total f xs + total g xs
+  total-add f g [] = rw (total-nil (λ x. f x + g x), total-nil f, total-nil g)
+  total-add f g (x ∷ xs) =
+      rw (total-cons (λ x. f x + g x) x xs, total-cons f x xs, total-cons g x xs, total-add f g xs) (omega arith)
+
+  pub total-zero : (xs : List A) → total (λ x. 0) xs ≡ 0
+  total-zero [] = total-nil (λ x. 0)
+  total-zero (x ∷ xs) = rw (total-cons (λ x. 0) x xs) (omega (arith, total-zero xs))
+
+  pub total-same : (f g : A → ℕ) (xs : List A) → ((x : A) → f x ≡ g x) → total f xs ≡ total g xs
+  total-same f g [] h = rw (total-nil f, total-nil g)
+  total-same f g (x ∷ xs) h = rw (total-cons f x xs, total-cons g x xs, h x, total-same f g xs h)
+
+pub count-map : {A B : Type 0} (p : B → Bool) (f : A → B) (xs : List A) → count p (map f xs) ≡ count (λ x. p (f x)) xs
+count-map p f [] = count-nil p ∙ sym (count-nil (λ x. p (f x)))
+count-map p f (x ∷ xs) =
+    rw (count-cons p (f x) (map f xs), count-cons (λ x. p (f x)) x xs, count-map p f xs)
+
+-- member
+
+pub member-nil : (x : ℕ) → member x [] ≡ false
+unfolding member
+member-nil x = refl
+
+pub member-cons : (x y : ℕ) (ys : List ℕ) → member x (y ∷ ys) ≡ (eqb x y || member x ys)
+unfolding member
+member-cons x y ys = refl
+
+pub member-append : (x : ℕ) (xs ys : List ℕ) → member x (xs ++ ys) ≡ (member x xs || member x ys)
+unfolding member
+member-append x [] ys = refl
+member-append x (y ∷ xs) ys = rw (member-append x xs ys) (sym (or-assoc (eqb x y) (member x xs) (member x ys)))
+
+pub member-snoc : (x : ℕ) (xs : List ℕ) (y : ℕ) → member x (xs ++ (y ∷ [])) ≡ (member x xs || eqb x y)
+member-snoc x xs y = rw (member-append x xs (y ∷ []), member-cons x y [], member-nil x, or-false (eqb x y))
+
+pub member-last : (x : ℕ) (l : List ℕ) → member x (l ++ (x ∷ [])) ≡ true
+member-last x l = rw (member-snoc x l x, eq-eqb x x refl) (case (member x l) (λ h. rw h) (λ h. rw h))
+
+pub member-before : (x : ℕ) (l : List ℕ) (y : ℕ) → member x l ≡ true → member x (l ++ (y ∷ [])) ≡ true
+member-before x l y e = rw (member-snoc x l y, e)
+
+pub snoc-cases : {C : Type 0} (x : ℕ) (l : List ℕ) (y : ℕ) → member x (l ++ (y ∷ [])) ≡ true → (member x l ≡ true → C) → (x ≡ y → C) → C
+snoc-cases x l y e f g = case (member x l) f (λ h. g (eqb-true x y (rw (member-snoc x l y, h) at e)))
+
+pub member-head : (x : ℕ) (l : List ℕ) → member x (x ∷ l) ≡ true
+member-head x l = rw (member-cons x x l, eq-eqb x x refl)
+
+pub member-tail : (x y : ℕ) (l : List ℕ) → member x l ≡ true → member x (y ∷ l) ≡ true
+member-tail x y l e = rw (member-cons x y l) (case (eqb x y) (λ h. rw h) (λ h. rw h e))
+
+pub member-cases : {C : Type 0} (x y : ℕ) (l : List ℕ) → member x (y ∷ l) ≡ true → (x ≡ y → C) → (member x l ≡ true → C) → C
+member-cases x y l e f g = case (eqb x y) (λ h. f (eqb-true x y h)) (λ h. g (rw (member-cons x y l, h) at e))
+
+pub member-keep : (p : ℕ → Bool) (x : ℕ) (l : List ℕ) → member x (keep p l) ≡ true → (p x ≡ true) × (member x l ≡ true)
+member-keep p x [] e = never (member x []) (rw (keep-nil p) at e) (member-nil x)
+member-keep p x (y ∷ l) e =
+    case (p y)
+    (λ h. member-cases x y (keep p l) (rw (keep-true p y l h) at e)
+    (λ z. (rw z h, rw z (member-head y l)))
+    (λ m. let w = member-keep p x l m in (w .0, member-tail x y l (w .1))))
+    (λ h. let w = member-keep p x l (rw (keep-false p y l h) at e) in (w .0, member-tail x y l (w .1)))
+
+pub member-kept : (p : ℕ → Bool) (x : ℕ) (l : List ℕ) → p x ≡ true → member x l ≡ true → member x (keep p l) ≡ true
+member-kept p x [] h e = never (member x []) e (member-nil x)
+member-kept p x (y ∷ l) h e =
+    member-cases x y l e
+    (λ z. rw (keep-true p y l (rw z at h), z) (member-head y (keep p l)))
+    (λ m. case (p y)
+    (λ k. rw (keep-true p y l k) (member-tail x y (keep p l) (member-kept p x l h m)))
+    (λ k. rw (keep-false p y l k) (member-kept p x l h m)))
+
+pub member-from : (k i x : ℕ) → member x (from i k) ≡ true → (i ≤ x) × (x < i + k)
+unfolding from
+member-from zero i x e = never (member x []) e (member-nil x)
+member-from (suc k) i x e =
+    member-cases x i (from (suc i) k) e (λ h. (omega arith, omega arith))
+    (λ h. let w = member-from k (suc i) x h in (omega arith, omega arith))
+
+pub from-member : (k i x : ℕ) → i ≤ x → x < i + k → member x (from i k) ≡ true
+unfolding from
+from-member zero i x h l = absurd (omega arith)
+from-member (suc k) i x h l =
+    rw (member-cons x i (from (suc i) k))
+    (case (eqb x i) (λ e. rw e) (λ e. let n = eqb-false x i e in rw e (from-member k (suc i) x (omega arith) (omega arith))))
+
+pub member-at : (l : List ℕ) (i : ℕ) → i < length l → member (getD l i 0) l ≡ true
+member-at [] i h = absurd (omega arith)
+member-at (y ∷ l) zero h = member-head y l
+member-at (y ∷ l) (suc i) h = member-tail (getD l i 0) y l (member-at l i (omega arith))
+
+pub map-at : (f : ℕ → ℕ) (l : List ℕ) (i : ℕ) → i < length l → getD (map f l) i 0 ≡ f (getD l i 0)
+map-at f [] i h = absurd (omega arith)
+map-at f (y ∷ l) zero h = refl
+map-at f (y ∷ l) (suc i) h = map-at f l i (omega arith)
+
+-- without
+
+pub without-member : (x y : ℕ) (l : List ℕ) → member x (without y l) ≡ true → (x ≡ y → ⊥) × (member x l ≡ true)
+unfolding without
+without-member x y l e =
+    let w = member-keep (λ z. not (eqb z y)) x l e in
+    ((λ h. never (eqb x y) (eq-eqb x y h) (not-true (eqb x y) (w .0))), w .1)
+
+pub member-without : (x y : ℕ) (l : List ℕ) → (x ≡ y → ⊥) → member x l ≡ true → member x (without y l) ≡ true
+unfolding without
+member-without x y l h e = member-kept (λ z. not (eqb z y)) x l (rw (ne-eqb x y h)) e
+
+pub without-shorter : (x : ℕ) (l : List ℕ) → member x l ≡ true → length (without x l) < length l
+unfolding without
+without-shorter x [] e = never (member x []) e (member-nil x)
+without-shorter x (y ∷ l) e =
+    case (eqb y x)
+    (λ h. rw (keep-false (λ z. not (eqb z x)) y l (rw h)) (omega (arith, keep-most (λ z. not (eqb z x)) l)))
+    (λ h. let m = member-cases x y l e (λ z. absurd (eqb-false y x h (sym z))) (λ m. m) in
+    rw (keep-true (λ z. not (eqb z x)) y l (rw h)) (omega (arith, without-shorter x l m)))
+
+pub without-none : (x : ℕ) (l : List ℕ) → member x l ≡ false → without x l ≡ l
+unfolding without
+without-none x [] e = keep-nil (λ z. not (eqb z x))
+without-none x (y ∷ l) e =
+    let h : (y ≡ x → ⊥) = λ z. never (member x (y ∷ l)) (rw z (member-head x l)) e in
+    rw (keep-true (λ z. not (eqb z x)) y l (rw (ne-eqb y x h)))
+    (ap (λ k. y ∷ k) (without-none x l (false-by (member x l) (λ m. never (member x (y ∷ l)) (member-tail x y l m) e))))
+
+-- a list of zeros is 0 wherever it is asked
+pub getD-zeros : (n i : ℕ) → getD {A = ℕ} (replicate n 0) i 0 ≡ 0
+getD-zeros zero i = refl
+getD-zeros (suc n) zero = refl
+getD-zeros (suc n) (suc i) = getD-zeros n i

@@ -1,0 +1,5 @@
+pub mod Tests
+pub mod Laws
+pub mod Decides
+pub mod Distinct
+pub mod Place

@@ -1,0 +1,4 @@
+pub mod First
+pub mod Accepted
+pub mod Table
+pub mod Determined

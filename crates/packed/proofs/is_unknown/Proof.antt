@@ -1,0 +1,14 @@
+-- `packed::is_unknown` meets its contract: the two tests in turn.
+use borrow.Author.Tests.{lt-ltb, le-ltb}
+use Rattle.lists.proofs.Tests.{leb-not-ltb}
+use Rattle.packed.proofs.is_unknown.Statement.{statement}
+use Rattle.packed.proofs.is_unknown.Tie as tie
+
+returns : tie.Need-returns
+returns c = simp (lt-ltb _ _ (c .if1 .taken)) (leb-not-ltb (c .before .args .nodes) (c .before .args .target))
+
+returns-2 : tie.Need-returns-2
+returns-2 c = simp (le-ltb _ _ (c .if1 .left))
+
+pub is-unknown-spec : {M : Type 1} → statement M
+is-unknown-spec = tie.close (tie.spec returns returns-2)

@@ -1,0 +1,8 @@
+pub mod Graph
+pub mod Packed
+pub mod Refusals
+pub mod Settings
+pub mod Table
+pub mod Determined
+pub mod Paper
+pub mod Examples
