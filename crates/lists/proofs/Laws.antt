@@ -1,12 +1,14 @@
 -- Laws of the words of specs/Lists: each word at the empty list, at one element more in front, and at one more behind.
 use Prim.Native.Nat.{ℕ, zero, suc, _+_, _≤_, _<_, _-_}
 use mathlib.Core.Bool.{Bool, true, false, cond, _&&_, _||_, not, true≢false, false≢true}
-use mathlib.Core.List.{List, [], _∷_, _++_, map}
+use mathlib.Core.List.{List, [], _∷_, _++_, map, append-nil}
 use mathlib.Core.Path.{_≡_, refl, sym, _∙_, ap}
 use native.Mathlib.Omega.{arith}
 use native.Mathlib.Numerals.{add-one}
 use lib.Dec.{eqb}
-use lib.ListN.{length, getD, replicate}
+use lib.ListN.{length, getD, set, replicate, length-append}
+use lib.Seq.{getD-set-same, getD-set-other}
+use borrow.Author.Count.{below-more}
 use borrow.Author.Tests.{eqb-true, eqb-false, eq-eqb, ne-eqb}
 use Rattle.lists.specs.Lists.{from, any, count, keep, total, member, without, place}
 use Rattle.lists.proofs.Tests.{case, never, and-left, and-right, not-true, or-false, or-assoc, false-by}
@@ -42,6 +44,16 @@ pub from-length : (i k : ℕ) → length (from i k) ≡ k
 unfolding from
 from-length i zero = refl
 from-length i (suc k) = ap suc (from-length (suc i) k)
+
+-- the number at a place of a run
+from-place : (k s i : ℕ) → i < k → getD (from s k) i 0 ≡ s + i
+unfolding from
+from-place zero s i h = absurd (omega arith)
+from-place (suc k) s zero h = omega arith
+from-place (suc k) s (suc i) h = omega (arith, from-place k (suc s) i (omega arith))
+
+pub from-at : (k i : ℕ) → i < k → getD (from 0 k) i 0 ≡ i
+from-at k i h = omega (arith, from-place k 0 i h)
 
 pub map-append : {A B : Type 0} (f : A → B) (xs ys : List A) → map f (xs ++ ys) ≡ map f xs ++ map f ys
 map-append f [] ys = refl
@@ -95,6 +107,10 @@ module _ {A : Type 0} where
   pub count-cons : (p : A → Bool) (x : A) (xs : List A) → count p (x ∷ xs) ≡ cond (p x) 1 0 + count p xs
   unfolding count
   count-cons p x xs = case (p x) (λ e. rw (e, count) (omega arith)) (λ e. rw (e, count) (omega arith))
+
+  pub count-none : (xs : List A) → count (λ x. false) xs ≡ 0
+  count-none [] = count-nil (λ x. false)
+  count-none (x ∷ xs) = rw (count-cons (λ x. false) x xs, count-none xs)
 
   pub count-append : (p : A → Bool) (xs ys : List A) → count p (xs ++ ys) ≡ count p xs + count p ys
   count-append p [] ys = rw count-nil (omega arith)
@@ -191,6 +207,64 @@ pub count-map : {A B : Type 0} (p : B → Bool) (f : A → B) (xs : List A) → 
 count-map p f [] = count-nil p ∙ sym (count-nil (λ x. p (f x)))
 count-map p f (x ∷ xs) =
     rw (count-cons p (f x) (map f xs), count-cons (λ x. p (f x)) x xs, count-map p f xs)
+
+-- totals and tests along a run of numbers
+
+pub total-from-more : (f : ℕ → ℕ) (k : ℕ) → total f (from 0 (k + 1)) ≡ total f (from 0 k) + f k
+total-from-more f k = let h : 0 + k ≡ k = omega arith in rw (from-more 0 k, total-snoc f (from 0 k) (0 + k), h)
+
+-- a shorter run adds up to no more
+pub total-from-most : (f : ℕ → ℕ) (k n i : ℕ) → k ≤ n → total f (from i k) ≤ total f (from i n)
+total-from-most f zero n i h = rw (from-none i, total-nil f) (omega arith)
+total-from-most f (suc k) zero i h = absurd (omega arith)
+total-from-most f (suc k) (suc n) i h =
+    rw (from-suc i k, from-suc i n, total-cons f i (from (suc i) k), total-cons f i (from (suc i) n))
+    (omega (arith, total-from-most f k n (suc i) (omega arith)))
+
+module _ (p : ℕ → Bool) where
+  pub keep-from-true : (k : ℕ) → p k ≡ true → keep p (from 0 (k + 1)) ≡ keep p (from 0 k) ++ (k ∷ [])
+  keep-from-true k e =
+      let h : 0 + k ≡ k = omega arith in
+      rw (from-more 0 k, h, keep-append p (from 0 k) (k ∷ []), keep-true p k [] e, keep-nil p)
+
+  pub keep-from-false : (k : ℕ) → p k ≡ false → keep p (from 0 (k + 1)) ≡ keep p (from 0 k)
+  keep-from-false k e =
+      let h : 0 + k ≡ k = omega arith in
+      rw (from-more 0 k, h, keep-append p (from 0 k) (k ∷ []), keep-false p k [] e, keep-nil p, append-nil (keep p (from 0 k)))
+
+  -- one that passes is one more
+  pub keep-from-length : (k : ℕ) → length (keep p (from 0 (k + 1))) ≡ length (keep p (from 0 k)) + cond (p k) 1 0
+  keep-from-length k =
+      case (p k)
+      (λ e. rw (keep-from-true k e, e) (length-append (keep p (from 0 k)) (k ∷ [])))
+      (λ e. rw (keep-from-false k e, e) (omega arith))
+
+  pub keep-from-none : (k i : ℕ) → ((x : ℕ) → i ≤ x → p x ≡ false) → keep p (from i k) ≡ []
+  keep-from-none zero i h = rw (from-none i, keep-nil p)
+  keep-from-none (suc k) i h =
+      rw (from-suc i k, keep-false p i (from (suc i) k) (h i (omega arith)))
+      (keep-from-none k (suc i) (λ x l. h x (omega arith)))
+
+  -- where just one number of the run passes, it is kept alone
+  pub keep-from-one : (k i v : ℕ) → i ≤ v → v < i + k → p v ≡ true → ((x : ℕ) → (x ≡ v → ⊥) → p x ≡ false) → keep p (from i k) ≡ v ∷ []
+  keep-from-one zero i v h l e o = absurd (omega arith)
+  keep-from-one (suc k) i v h l e o =
+      case (eqb i v)
+      (λ q. let z = eqb-true i v q in
+      rw (from-suc i k, z, keep-true p v (from (suc v) k) e, keep-from-none k (suc v) (λ x b. o x (λ w. omega arith))))
+      (λ q. let z = eqb-false i v q in
+      rw (from-suc i k, keep-false p i (from (suc i) k) (o i z)) (keep-from-one k (suc i) v (omega arith) (omega arith) e o))
+
+-- tests that agree along a run keep the same
+pub keep-same-from : (p q : ℕ → Bool) (n : ℕ) → ((i : ℕ) → i < n → p i ≡ q i) → keep p (from 0 n) ≡ keep q (from 0 n)
+keep-same-from p q zero h = rw (from-none 0, keep-nil p, keep-nil q)
+keep-same-from p q (suc n) h =
+    let same = keep-same-from p q n (λ i l. h i (omega arith)) in
+    let here = h n (omega arith) in
+    rw (← add-one n)
+    (case (p n)
+    (λ e. rw (keep-from-true p n e, keep-from-true q n (sym here ∙ e), same))
+    (λ e. rw (keep-from-false p n e, keep-from-false q n (sym here ∙ e), same)))
 
 -- member
 
@@ -299,8 +373,17 @@ without-none x (y ∷ l) e =
     rw (keep-true (λ z. not (eqb z x)) y l (rw (ne-eqb y x h)))
     (ap (λ k. y ∷ k) (without-none x l (false-by (member x l) (λ m. never (member x (y ∷ l)) (member-tail x y l m) e))))
 
--- a list of zeros is 0 wherever it is asked
+-- what holds of each element before v holds of one more once x is stored at v
+pub stored-more : {A : Type 0} (P : ℕ → A → Type 0) (d : A) (l : List A) (v : ℕ) (x : A) → v < length l
+    → ((i : ℕ) → i < v → P i (getD l i d)) → P v x → (i : ℕ) → i < v + 1 → P i (getD (set l v x) i d)
+stored-more P d l v x h before here =
+    below-more _ v (λ i b. rw (getD-set-other l v i x d (λ e. omega arith)) (before i b)) (rw (getD-set-same l v x d h) here)
+
+-- a list of the default is the default wherever it is asked
+pub getD-replicate-default : {A : Type 0} (n : ℕ) (d : A) (i : ℕ) → getD (replicate n d) i d ≡ d
+getD-replicate-default zero d i = refl
+getD-replicate-default (suc n) d zero = refl
+getD-replicate-default (suc n) d (suc i) = getD-replicate-default n d i
+
 pub getD-zeros : (n i : ℕ) → getD {A = ℕ} (replicate n 0) i 0 ≡ 0
-getD-zeros zero i = refl
-getD-zeros (suc n) zero = refl
-getD-zeros (suc n) (suc i) = getD-zeros n i
+getD-zeros n i = getD-replicate-default n 0 i

@@ -1,7 +1,8 @@
 -- The words that the definitions are written in: what passes a test, what is kept, what adds up.
-use Prim.Native.Nat.{ℕ, zero, suc, _+_}
+use Prim.Native.Nat.{ℕ, zero, suc, _+_, _<_}
 use mathlib.Core.Bool.{Bool, true, false, cond, _&&_, _||_, not}
 use mathlib.Core.List.{List, [], _∷_}
+use mathlib.Core.Path.{_≡_}
 use lib.Dec.{eqb}
 
 -- the numbers i, i + 1, .. : k of them
@@ -31,6 +32,11 @@ module _ {A : Type 0} where
 unfoldable pub member : ℕ → List ℕ → Bool
 member x [] = false
 member x (y ∷ ys) = eqb x y || member x ys
+
+-- numbers below n, each once
+abbrev pub Distinct : ℕ → List ℕ → Type 0
+Distinct n [] = Unit
+Distinct n (u ∷ us) = ((u < n) × (member u us ≡ false)) × Distinct n us
 
 unfoldable pub without : ℕ → List ℕ → List ℕ
 unfolding keep

@@ -1,20 +1,24 @@
 -- What an accepted file promises: its counts, its length, its zero padding, its edges' ends, and that its graph is the one read from it.
 use Prim.Native.Nat.{ℕ, _-_, _*_, _≤_, _<_}
-use mathlib.Core.Bool.{false, _&&_}
+use mathlib.Core.Bool.{Bool, false, _&&_}
 use mathlib.Core.List.{List}
+use mathlib.Core.Option.{some}
 use mathlib.Core.Path.{_≡_, refl, sym, _∙_}
 use native.Mathlib.Omega.{arith}
-use lib.Dec.{ltb}
-use lib.ListN.{length}
+use lib.Dec.{ltb, eqb}
+use lib.ListN.{length, length-map}
 use borrow.Author.Tests.{ltb-true, ltb-false, eqb-true, not-false}
+use Rattle.lists.specs.Lists.{from}
+use Rattle.lists.proofs.Laws.{from-length}
 use Rattle.lists.proofs.Tests.{and-left, and-right}
 use Rattle.lists.proofs.Decides.{none-passes}
 use Rattle.bits.specs.Bits.{field}
 use Rattle.bits.proofs.Laws.{field-zero}
-use Rattle.packed.specs.Graph.{Edge, Graph}
-use Rattle.packed.specs.Packed.{nodeCount, edgeCount, edgeAt, usedBits, fileLength, graphOf}
-use Rattle.packed.specs.Refusals.{first, tooShort, tooManyNodes, tooManyEdges, wrongLength, paddingBit, names, unknownNode, graph, reading}
-use Rattle.packed.proofs.First.{test, fileTests, reading-first, reading-graph}
+use Rattle.packed.specs.Graph.{Edge, Graph, nodes}
+use Rattle.packed.specs.Packed.{kind, nodeCount, edgeCount, labelAt, edgeAt, usedBits, fileLength, graphOf}
+use Rattle.packed.specs.Refusals.{Refused, first, fileLines, tooShort, tooManyNodes, tooManyEdges, wrongLength, paddingBit, names, unknownNode, Reading, graph, refusal, reading}
+use Rattle.packed.specs.Paper.{counts, refused, summary}
+use Rattle.packed.proofs.First.{test, fileTests, reading-first, reading-graph, a-line}
 
 pub graph-of : (file : ℕ) (s : List ℕ) (g : Graph) → reading file s ≡ graph g → g ≡ graphOf s
 graph-of file s g e = sym (reading-graph file s g .0 e .1)
@@ -52,3 +56,44 @@ pub accepts : (file : ℕ) (s : List ℕ) → tooShort s ≡ false → tooManyNo
     → paddingBit s ≡ false → unknownNode s ≡ false → reading file s ≡ graph (graphOf s)
 unfolding first
 accepts file s e₁ e₂ e₃ e₄ e₅ e₆ = rw (reading-first, e₁, e₂, e₃, e₄, e₅, e₆)
+
+-- what Read's answer of an accepted file says of it
+pub record Counted (s : List ℕ) (directed : Bool) (nodes edges : ℕ) : Type 0 where
+  pub file-accepted : Accepted s
+  pub directed-is : directed ≡ eqb (kind s) 1
+  pub nodes-are : nodes ≡ nodeCount s
+  pub edges-are : edges ≡ edgeCount s
+
+pub nodes-of-graph : (s : List ℕ) → nodes (graphOf s) ≡ nodeCount s
+unfolding graphOf
+nodes-of-graph s = length-map (from 0 (nodeCount s)) (labelAt s) ∙ from-length 0 (nodeCount s)
+
+pub edges-of-graph : (s : List ℕ) → length (graphOf s .edges) ≡ edgeCount s
+unfolding graphOf
+edges-of-graph s = length-map (from 0 (edgeCount s)) (edgeAt s) ∙ from-length 0 (edgeCount s)
+
+counts-same : (a : Bool) (b c : ℕ) (d : Bool) (e f : ℕ) → counts a b c ≡ counts d e f → (a ≡ d) × (b ≡ e) × (c ≡ f)
+counts-same a b c d e f h = (cc, cc, cc)
+
+pub counted : (file : ℕ) (s : List ℕ) (directed : Bool) (n e : ℕ) → counts directed n e ≡ summary (reading file s) → Counted s directed n e
+unfolding graphOf
+counted file s directed n e h = by-reading (reading file s) refl h
+  where
+    by-reading : (r : Reading) → reading file s ≡ r → counts directed n e ≡ summary r → Counted s directed n e
+    by-reading (graph g) q h =
+        let of = graph-of file s g q in
+        let same = rw of at (counts-same directed n e (g .directed) (nodes g) (length (g .edges)) h) in
+        record {
+          file-accepted = accepted file s g q;
+          directed-is = same .0;
+          nodes-are = same .1 ∙ nodes-of-graph s;
+          edges-are = same .2 ∙ edges-of-graph s;
+        }
+    by-reading (refusal r) q h = let z : _≡_ {A = ℕ} 0 1 = cc in absurd (omega arith)
+
+pub refused-line : (file : ℕ) (s : List ℕ) (r : Refused) → refused r ≡ summary (reading file s) → first (fileLines file s) ≡ some r
+refused-line file s r h = by-reading (reading file s) refl h
+  where
+    by-reading : (q : Reading) → reading file s ≡ q → refused r ≡ summary q → first (fileLines file s) ≡ some r
+    by-reading (graph g) e h = let z : _≡_ {A = ℕ} 0 1 = cc in absurd (omega arith)
+    by-reading (refusal q) e h = let same : q ≡ r = cc in rw same at (a-line file s q e)

@@ -2,7 +2,7 @@
 -- and a reading is the graph exactly when no test holds.
 use Prim.Native.Nat.{ℕ, zero, suc, _+_, _≤_, _<_}
 use mathlib.Core.Bool.{Bool, true, false}
-use mathlib.Core.List.{List, [], _∷_}
+use mathlib.Core.List.{List, [], _∷_, _++_}
 use mathlib.Core.Logic.{_↔_, Iff·rfl, Iff·trans, Iff·and}
 use mathlib.Core.Option.{Option, none, some}
 use mathlib.Core.Path.{_≡_, refl, sym}
@@ -10,7 +10,7 @@ use native.Mathlib.Nat.{zero-add}
 use native.Mathlib.Numerals.{add-one}
 use native.Mathlib.Omega.{arith}
 use lib.ListN.{getD}
-use Rattle.lists.proofs.Tests.{never}
+use Rattle.lists.proofs.Tests.{case, never}
 use Rattle.packed.specs.Graph.{Graph}
 use Rattle.packed.specs.Packed.{graphOf}
 use Rattle.packed.specs.Refusals.{Refused, Line, line, first, tooShort, tooManyNodes, tooManyEdges, wrongLength, paddingBit, unknownNode, fileLines, graph, refusal, orGraph, reading}
@@ -62,6 +62,19 @@ first-at n file (false ∷ bs) (suc i) =
       λ h. later .1 (h .0, λ j l. h .1 (suc j) (omega arith)),
     )
 
+-- lines in front of others
+pub first-before : (ls ms : List Line) (r : Refused) → first ls ≡ some r → first (ls ++ ms) ≡ some r
+unfolding first
+first-before [] ms r e = some-none r (sym e)
+first-before (l ∷ ls) ms r e =
+    case (l .applies) (λ h. rw (h, first) (rw (h, first) at e)) (λ h. rw (h, first) (first-before ls ms r (rw (h, first) at e)))
+
+pub first-behind : (ls ms : List Line) → first ls ≡ none → first (ls ++ ms) ≡ first ms
+unfolding first
+first-behind [] ms e = refl
+first-behind (l ∷ ls) ms e =
+    case (l .applies) (λ h. some-none (l .gives) (rw (h, first) at e)) (λ h. rw (h, first) (first-behind ls ms (rw (h, first) at e)))
+
 -- the tests of the table's lines 1 to 6
 abbrev pub fileTests : List ℕ → List Bool
 fileTests s = tooShort s ∷ tooManyNodes s ∷ tooManyEdges s ∷ wrongLength s ∷ paddingBit s ∷ unknownNode s ∷ []
@@ -90,6 +103,14 @@ module _ (file : ℕ) (s : List ℕ) where
       → (reading file s ≡ refusal (record { number = suc i; file = file }))
       ↔ ((test (fileTests s) i ≡ true) × ((j : ℕ) → j < i → test (fileTests s) j ≡ false))
   reading-refusal i = rw (← add-one i, reading-first) (Iff·trans (or-refusal _ (graphOf s) _) (first-at 1 file (fileTests s) i))
+
+  pub no-line : (g : Graph) → reading file s ≡ graph g → first (fileLines file s) ≡ none
+  unfolding reading
+  no-line g e = or-graph (first (fileLines file s)) (graphOf s) g .0 e .0
+
+  pub a-line : (r : Refused) → reading file s ≡ refusal r → first (fileLines file s) ≡ some r
+  unfolding reading
+  a-line r e = or-refusal (first (fileLines file s)) (graphOf s) r .0 e
 
   -- the numbers begin at 1
   pub reading-numbers : (r : Refused) → reading file s ≡ refusal r → 1 ≤ r .number

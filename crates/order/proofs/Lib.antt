@@ -1,0 +1,12 @@
+pub mod LargestFirst
+pub mod Once
+pub mod Entries
+pub mod Renumbered
+pub mod Rank
+pub mod Marks
+pub mod Firsts
+pub mod Filled
+pub mod Taking
+pub mod Rounds
+pub mod Prepared
+pub mod Answered
