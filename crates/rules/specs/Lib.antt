@@ -1,0 +1,6 @@
+pub mod Task
+pub mod Marks
+pub mod Acceptable
+pub mod Search
+pub mod Placement
+pub mod Examples
