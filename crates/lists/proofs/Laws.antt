@@ -130,6 +130,15 @@ module _ {A : Type 0} where
   count-all [] = count-nil (λ x. true)
   count-all (x ∷ xs) = rw (count-cons (λ x. true) x xs, count-all xs) (omega arith)
 
+  -- of two tests that nothing passes both of, those that pass either add up
+  pub count-either : (p q : A → Bool) (xs : List A) → ((x : A) → (p x && q x) ≡ false) → count (λ x. p x || q x) xs ≡ count p xs + count q xs
+  count-either p q [] h = rw (count-nil (λ x. p x || q x), count-nil p, count-nil q)
+  count-either p q (x ∷ xs) h =
+      rw (count-cons (λ x. p x || q x) x xs, count-cons p x xs, count-cons q x xs, count-either p q xs h)
+      (case (p x)
+      (λ e. rw (e, rw e at (h x)) (omega arith))
+      (λ e. rw e (omega arith)))
+
   -- keep
 
   pub keep-nil : (p : A → Bool) → keep p [] ≡ []
@@ -212,6 +221,17 @@ count-map p f (x ∷ xs) =
 
 pub total-from-more : (f : ℕ → ℕ) (k : ℕ) → total f (from 0 (k + 1)) ≡ total f (from 0 k) + f k
 total-from-more f k = let h : 0 + k ≡ k = omega arith in rw (from-more 0 k, total-snoc f (from 0 k) (0 + k), h)
+
+pub count-from-more : (p : ℕ → Bool) (k : ℕ) → count p (from 0 (k + 1)) ≡ count p (from 0 k) + cond (p k) 1 0
+count-from-more p k =
+    let h : 0 + k ≡ k = omega arith in
+    rw (from-more 0 k, count-append p (from 0 k) ((0 + k) ∷ []), count-cons p (0 + k) [], count-nil p, h) (omega arith)
+
+-- tests that agree along a run count the same
+pub count-same-from : (p q : ℕ → Bool) (n : ℕ) → ((i : ℕ) → i < n → p i ≡ q i) → count p (from 0 n) ≡ count q (from 0 n)
+count-same-from p q zero h = rw (from-none 0, count-nil p, count-nil q)
+count-same-from p q (suc n) h =
+    rw (← add-one n, count-from-more p n, count-from-more q n, h n (omega arith), count-same-from p q n (λ i l. h i (omega arith)))
 
 -- a shorter run adds up to no more
 pub total-from-most : (f : ℕ → ℕ) (k n i : ℕ) → k ≤ n → total f (from i k) ≤ total f (from i n)
