@@ -276,15 +276,18 @@ module _ (p : ℕ → Bool) where
       rw (from-suc i k, keep-false p i (from (suc i) k) (o i z)) (keep-from-one k (suc i) v (omega arith) (omega arith) e o))
 
 -- tests that agree along a run keep the same
+pub keep-same-run : (p q : ℕ → Bool) (k i : ℕ) → ((x : ℕ) → i ≤ x → x < i + k → p x ≡ q x) → keep p (from i k) ≡ keep q (from i k)
+keep-same-run p q zero i h = rw (from-none i, keep-nil p, keep-nil q)
+keep-same-run p q (suc k) i h =
+    let same = keep-same-run p q k (suc i) (λ x l b. h x (omega arith) (omega arith)) in
+    let here = h i (omega arith) (omega arith) in
+    rw (from-suc i k)
+    (case (p i)
+    (λ e. rw (keep-true p i (from (suc i) k) e, keep-true q i (from (suc i) k) (sym here ∙ e), same))
+    (λ e. rw (keep-false p i (from (suc i) k) e, keep-false q i (from (suc i) k) (sym here ∙ e), same)))
+
 pub keep-same-from : (p q : ℕ → Bool) (n : ℕ) → ((i : ℕ) → i < n → p i ≡ q i) → keep p (from 0 n) ≡ keep q (from 0 n)
-keep-same-from p q zero h = rw (from-none 0, keep-nil p, keep-nil q)
-keep-same-from p q (suc n) h =
-    let same = keep-same-from p q n (λ i l. h i (omega arith)) in
-    let here = h n (omega arith) in
-    rw (← add-one n)
-    (case (p n)
-    (λ e. rw (keep-from-true p n e, keep-from-true q n (sym here ∙ e), same))
-    (λ e. rw (keep-from-false p n e, keep-from-false q n (sym here ∙ e), same)))
+keep-same-from p q n h = keep-same-run p q n 0 (λ x l b. h x (omega arith))
 
 -- member
 
@@ -407,3 +410,9 @@ getD-replicate-default (suc n) d (suc i) = getD-replicate-default n d i
 
 pub getD-zeros : (n i : ℕ) → getD {A = ℕ} (replicate n 0) i 0 ≡ 0
 getD-zeros n i = getD-replicate-default n 0 i
+
+-- two totals along a run that agree at each of its numbers
+pub total-same-from : (f g : ℕ → ℕ) (k : ℕ) → ((i : ℕ) → i < k → f i ≡ g i) → total f (from 0 k) ≡ total g (from 0 k)
+total-same-from f g zero h = rw (from-none 0, total-nil f, total-nil g)
+total-same-from f g (suc k) h =
+    rw (← add-one k, total-from-more f k, total-from-more g k, h k (omega arith), total-same-from f g k (λ i l. h i (omega arith)))

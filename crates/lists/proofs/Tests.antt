@@ -3,8 +3,9 @@ use Prim.Native.Nat.{ℕ}
 use mathlib.Core.Bool.{Bool, true, false, _&&_, _||_, not, true≢false, false≢true}
 use mathlib.Core.Option.{Option, none, some}
 use mathlib.Core.Path.{_≡_, refl, sym, _∙_}
+use native.Mathlib.Omega.{arith}
 use lib.Dec.{eqb, leb, ltb}
-use borrow.Author.Tests.{eqb-true, eq-eqb, ltb-true, ltb-false, le-leb, lt-leb}
+use borrow.Author.Tests.{eqb-true, eq-eqb, ne-eqb, ltb-true, ltb-false, le-leb, lt-leb}
 
 -- a proof by the two values of a test
 abbrev pub case : {C : Type 0} (b : Bool) → (b ≡ true → C) → (b ≡ false → C) → C
@@ -66,3 +67,9 @@ leb-not-ltb a b =
     case (ltb b a)
     (λ e. rw (e, lt-leb a b (ltb-true b a e)))
     (λ e. rw (e, le-leb a b (ltb-false b a e)))
+
+pub eqb-zero : (a : ℕ) → eqb a 0 ≡ not (ltb 0 a)
+eqb-zero a =
+    case (ltb 0 a)
+    (λ e. let h = ltb-true 0 a e in rw (e, ne-eqb a 0 (λ z. omega arith)))
+    (λ e. let h = ltb-false 0 a e in rw (e, eq-eqb a 0 (omega arith)))
