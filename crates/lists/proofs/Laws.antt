@@ -1,6 +1,6 @@
 -- Laws of the words of specs/Lists: each word at the empty list, at one element more in front, and at one more behind.
 use Prim.Native.Nat.{ℕ, zero, suc, _+_, _≤_, _<_, _-_}
-use mathlib.Core.Bool.{Bool, true, false, cond, _&&_, _||_, not, true≢false, false≢true}
+use mathlib.Core.Bool.{Bool, true, false, cond, _&&_, _||_, not}
 use mathlib.Core.List.{List, [], _∷_, _++_, map, append-nil}
 use mathlib.Core.Path.{_≡_, refl, sym, _∙_, ap}
 use native.Mathlib.Omega.{arith}
@@ -10,8 +10,8 @@ use lib.ListN.{length, getD, set, replicate, length-append}
 use lib.Seq.{getD-set-same, getD-set-other}
 use borrow.Author.Count.{below-more}
 use borrow.Author.Tests.{eqb-true, eqb-false, eq-eqb, ne-eqb}
-use Rattle.lists.specs.Lists.{from, any, count, keep, total, member, without, place}
-use Rattle.lists.proofs.Tests.{case, never, and-left, and-right, not-true, or-false, or-assoc, false-by}
+use Rattle.lists.specs.Lists.{from, any, count, keep, total, member, without}
+use Rattle.lists.proofs.Tests.{case, never, not-true, or-false, or-assoc, false-by}
 
 -- from
 

@@ -16,7 +16,7 @@ use Rattle.bits.specs.Bits.{field}
 use Rattle.bits.proofs.Laws.{field-zero}
 use Rattle.packed.specs.Graph.{Edge, Graph, nodes}
 use Rattle.packed.specs.Packed.{kind, nodeCount, edgeCount, labelAt, edgeAt, usedBits, fileLength, graphOf}
-use Rattle.packed.specs.Refusals.{Refused, first, fileLines, tooShort, tooManyNodes, tooManyEdges, wrongLength, paddingBit, names, unknownNode, Reading, graph, refusal, reading}
+use Rattle.packed.specs.Refusals.{Refused, first, fileLines, tooShort, tooManyNodes, tooManyEdges, wrongLength, paddingBit, namesUnknown, unknownNode, Reading, graph, refusal, reading}
 use Rattle.packed.specs.Paper.{counts, refused, summary}
 use Rattle.packed.proofs.First.{test, fileTests, reading-first, reading-graph, a-line}
 
@@ -31,7 +31,7 @@ pub record Accepted (s : List ℕ) : Type 0 where
   pub ends-below : (j : ℕ) → j < edgeCount s → (edgeAt s j .source < nodeCount s) × (edgeAt s j .target < nodeCount s)
   pub is-graph : (file : ℕ) → reading file s ≡ graph (graphOf s)
 
-names-both : (n : ℕ) (e : Edge) → names n e ≡ false → (e .source < n) × (e .target < n)
+names-both : (n : ℕ) (e : Edge) → namesUnknown n e ≡ false → (e .source < n) × (e .target < n)
 names-both n e h =
     let a = ltb (e .source) n in
     let b = ltb (e .target) n in
@@ -47,7 +47,7 @@ accepted file s g e =
       long = eqb-true (length s) _ (not-false _ (no 3));
       padded = eqb-true _ 0 (not-false _ (sym (field-zero s _ _) ∙ no 4));
       ends-below = λ j l.
-          names-both _ (edgeAt s j) (none-passes (λ j. names (nodeCount s) (edgeAt s j)) _ 0 (no 5) j (omega arith) (omega arith));
+          names-both _ (edgeAt s j) (none-passes (λ j. namesUnknown (nodeCount s) (edgeAt s j)) _ 0 (no 5) j (omega arith) (omega arith));
       is-graph = λ file. reading-graph file s (graphOf s) .1 (no, refl);
     }
 

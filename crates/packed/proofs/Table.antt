@@ -14,7 +14,7 @@ use Rattle.bits.specs.Bits.{bitAt}
 use Rattle.bits.proofs.Laws.{field-below}
 use Rattle.packed.specs.Graph.{Edge}
 use Rattle.packed.specs.Packed.{nodeCount, edgeCount, edgeAt, usedBits, fileLength, graphOf}
-use Rattle.packed.specs.Refusals.{paddingBit, unknownNode, names}
+use Rattle.packed.specs.Refusals.{paddingBit, unknownNode, namesUnknown}
 use Rattle.packed.specs.Settings.{ordering, spare, limited, limitField, badSettings, settingsLines}
 use Rattle.packed.specs.Table.{PaddingBitIsOne, EdgeNamesNodeNotBelow, lines, Says, GivenExactly, AcceptedExactly, NotSettings, SettingsRefusedExactly, SettingsAcceptedExactly}
 use Rattle.packed.proofs.First.{test, fileTests, first-none, first-at, reading-graph, reading-refusal, reading-numbers}
@@ -38,14 +38,14 @@ padding-bit s =
       λ h. d .1 (h .offset, h .behind-the-edges, omega arith, h .is-one),
     )
 
-names-one : (n : ℕ) (e : Edge) → Decides (names n e) ((n ≤ e .source) ⊎ (n ≤ e .target))
+names-one : (n : ℕ) (e : Edge) → Decides (namesUnknown n e) ((n ≤ e .source) ⊎ (n ≤ e .target))
 names-one n e =
     decides-not-both (ltb (e .source) n) (ltb (e .target) n) (decides-not-less (e .source) n) (decides-not-less (e .target) n)
 
 unknown-node : (s : List ℕ) → Decides (unknownNode s) (EdgeNamesNodeNotBelow s)
 unknown-node s =
     let n = nodeCount s in
-    let d = decides-any (λ j. names n (edgeAt s j)) (λ j. names-one n (edgeAt s j)) (edgeCount s) 0 in (
+    let d = decides-any (λ j. namesUnknown n (edgeAt s j)) (λ j. names-one n (edgeAt s j)) (edgeCount s) 0 in (
       λ e. let w = d .0 e in record { edge = w .0; within-the-file = omega (arith, w .2); not-below = w .3 },
       λ h. d .1 (h .edge, omega arith, omega arith, h .not-below),
     )

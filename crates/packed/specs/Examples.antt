@@ -2,15 +2,14 @@
 use Prim.Native.Nat.{ℕ}
 use mathlib.Core.Bool.{true, false}
 use mathlib.Core.List.{List, [], _∷_}
-use mathlib.Core.Option.{Option, none, some}
+use mathlib.Core.Option.{none, some}
 use mathlib.Core.Path.{_≡_, refl}
-use lib.ListN.{replicate}
 use Rattle.lists.specs.Lists.{from, any}
-use Rattle.bits.specs.Bits.{bitAt, field}
-use Rattle.packed.specs.Graph.{Edge, Graph}
+use Rattle.bits.specs.Bits.{field}
+use Rattle.packed.specs.Graph.{Edge}
 use Rattle.packed.specs.Packed.{graphOf}
-use Rattle.packed.specs.Refusals.{Refused, first, fileLines, reading, graph, refusal}
-use Rattle.packed.specs.Settings.{Settings, settingsOf, settingsLines}
+use Rattle.packed.specs.Refusals.{first, fileLines, reading, graph, refusal}
+use Rattle.packed.specs.Settings.{settingsOf, settingsLines}
 
 abbrev pub edge : ℕ → ℕ → Edge
 edge a b = record { source = a; target = b; label = 0 }

@@ -1,11 +1,10 @@
 -- The packed graph, field by field (document 01, "Packed graph"). Each field of a byte string is what stands at its place,
 -- whatever the string; `Refusals` says which strings are files.
-use Prim.Native.Nat.{ℕ, _+_, _-_, _*_, _/_}
+use Prim.Native.Nat.{ℕ, _+_, _*_, _/_}
 use mathlib.Core.List.{List, map}
 use lib.Dec.{eqb}
-use lib.ListN.{length}
 use Rattle.lists.specs.Lists.{from}
-use Rattle.bits.specs.Bits.{bitAt, field}
+use Rattle.bits.specs.Bits.{field}
 use Rattle.packed.specs.Graph.{Edge, Graph}
 
 -- kind 1 bit, node count N 8 bits, edge count E 11 bits

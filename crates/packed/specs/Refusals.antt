@@ -1,8 +1,8 @@
 -- The refusal table (document 01, "The five outer calls and what they turn away"): its lines for a file,
 -- and "the first that applies".
-use Prim.Native.Nat.{ℕ, _+_, _-_, _*_}
-use mathlib.Core.Bool.{Bool, cond, _&&_, _||_, not}
-use mathlib.Core.List.{List, [], _∷_, map}
+use Prim.Native.Nat.{ℕ, _-_, _*_}
+use mathlib.Core.Bool.{Bool, cond, _&&_, not}
+use mathlib.Core.List.{List, [], _∷_}
 use mathlib.Core.Option.{Option, none, some}
 use lib.Dec.{eqb, ltb}
 use lib.ListN.{length}
@@ -54,11 +54,11 @@ abbrev pub paddingBit : List ℕ → Bool
 paddingBit s = any (λ o. eqb (bitAt s o) 1) (offsets (usedBits (nodeCount s) (edgeCount s)) (8 * length s))
 
 -- 6: an edge names a node not below N
-abbrev pub names : ℕ → Edge → Bool
-names n e = not (ltb (e .source) n && ltb (e .target) n)
+abbrev pub namesUnknown : ℕ → Edge → Bool
+namesUnknown n e = not (ltb (e .source) n && ltb (e .target) n)
 
 abbrev pub unknownNode : List ℕ → Bool
-unknownNode s = any (λ j. names (nodeCount s) (edgeAt s j)) (from 0 (edgeCount s))
+unknownNode s = any (λ j. namesUnknown (nodeCount s) (edgeAt s j)) (from 0 (edgeCount s))
 
 -- the table's lines 1 to 6 for a file
 unfoldable pub fileLines : ℕ → List ℕ → List Line

@@ -8,7 +8,7 @@ ghost use lib.ListN.{length};
 ghost use Rattle.lists.specs.Lists.{from, any};
 ghost use Rattle.bits.specs.Bits.{field};
 ghost use Rattle.packed.specs.Packed.{edgeFrom, edgeOffset, usedBits, fileLength};
-ghost use Rattle.packed.specs.Refusals.{names, reading};
+ghost use Rattle.packed.specs.Refusals.{namesUnknown, reading};
 ghost use Rattle.packed.specs.Paper.{numberOf, readPaper, summary};
 
 pub const MAX_NODES: usize = 128;
@@ -72,7 +72,7 @@ fn used_bits(nodes: usize, edges: usize) -> usize
 }
 
 fn is_unknown(source: usize, target: usize, nodes: usize) -> bool
-    ensures { λ r. ⌜ r ≡ names nodes (record { source = source; target = target; label = 0 }) ⌝ }
+    ensures { λ r. ⌜ r ≡ namesUnknown nodes (record { source = source; target = target; label = 0 }) ⌝ }
 {
     if source < nodes {
         nodes <= target
@@ -86,7 +86,7 @@ fn has_unknown_node(s: &[u8], nodes: usize, edges: usize) -> bool
     requires { ⌜ usedBits nodes edges ≤ 8 * length (now s) ⌝ }
     requires { ⌜ nodes ≤ 128 ⌝ }
     requires { ⌜ edges ≤ 1024 ⌝ }
-    ensures { λ r. ⌜ r ≡ any (λ j. names nodes (edgeFrom (now (s .entry)) (edgeOffset nodes j))) (from 0 edges) ⌝ }
+    ensures { λ r. ⌜ r ≡ any (λ j. namesUnknown nodes (edgeFrom (now (s .entry)) (edgeOffset nodes j))) (from 0 edges) ⌝ }
 {
     for j in 0..edges {
         let offset = used_bits(nodes, j);

@@ -1,11 +1,10 @@
 -- `bits::number` meets its contract. At the loop's head `value` is the field of the first i bits.
-use Prim.Native.Nat.{ℕ, _≤_, _-_, _+_, _<_, _^_}
+use Prim.Native.Nat.{ℕ, _≤_, _-_, _<_, _^_}
 use mathlib.Core.Path.{_≡_, sym}
 use mathlib.Core.List.{List}
 use native.Mathlib.Omega.{arith}
-use native.Mathlib.Nat.{mod-lt}
 use lib.Pow.{pow-mono}
-use Rattle.bits.specs.Bits.{bitAt, field}
+use Rattle.bits.specs.Bits.{field}
 use Rattle.bits.proofs.Laws.{field-none, field-more, field-below}
 use Rattle.bits.proofs.number.Statement.{statement}
 use Rattle.bits.proofs.number.Tie as tie

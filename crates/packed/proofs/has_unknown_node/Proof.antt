@@ -1,25 +1,25 @@
 -- `packed::has_unknown_node` meets its contract. At the loop's head no edge before j names an unknown node,
 -- so the answer for those that are left is the answer for all.
 use Prim.Native.Nat.{ℕ, _≤_, _-_, _+_, _<_}
-use mathlib.Core.Bool.{Bool, true, false, _||_}
-use mathlib.Core.Path.{_≡_, refl, sym, _∙_}
+use mathlib.Core.Bool.{Bool, false, _||_}
+use mathlib.Core.Path.{_≡_, sym, _∙_}
 use mathlib.Core.List.{List}
 use native.Mathlib.Omega.{arith}
 use Rattle.lists.specs.Lists.{from, any}
 use Rattle.lists.proofs.Laws.{from-left, from-end, any-nil, any-cons}
 use Rattle.bits.specs.Bits.{field}
 use Rattle.packed.specs.Packed.{edgeFrom, edgeOffset}
-use Rattle.packed.specs.Refusals.{names}
+use Rattle.packed.specs.Refusals.{namesUnknown}
 use Rattle.packed.proofs.has_unknown_node.Statement.{statement}
 use Rattle.packed.proofs.has_unknown_node.Tie as tie
 
 abbrev unknown : List ℕ → ℕ → ℕ → Bool
-unknown s nodes j = names nodes (edgeFrom s (edgeOffset nodes j))
+unknown s nodes j = namesUnknown nodes (edgeFrom s (edgeOffset nodes j))
 
 module _ (s : List ℕ) (nodes : ℕ) where
   -- what the test of an edge says, at the edge's offset
   tested : (j o source target : ℕ) (r : Bool) → o ≡ edgeOffset nodes j → source ≡ field s o 7 → target ≡ field s (o + 7) 7
-      → r ≡ names nodes (record { source = source; target = target; label = 0 }) → r ≡ unknown s nodes j
+      → r ≡ namesUnknown nodes (record { source = source; target = target; label = 0 }) → r ≡ unknown s nodes j
   tested j o source target r at from to e = e ∙ rw (from, to, at)
 
   split : (j edges : ℕ) → j < edges → any (unknown s nodes) (from j (edges - j)) ≡ (unknown s nodes j || any (unknown s nodes) (from (j + 1) (edges - (j + 1))))

@@ -3,7 +3,7 @@
 use Prim.Native.Nat.{ℕ, suc, _+_, _-_, _*_, _/_, _<_, _≤_}
 use mathlib.Core.Bool.{Bool, true, false, not}
 use mathlib.Core.List.{List}
-use mathlib.Core.Path.{_≡_, refl, sym, _∙_, ap}
+use mathlib.Core.Path.{_≡_, sym, _∙_, ap}
 use lib.Dec.{eqb, lit<}
 use lib.ListN.{length, length-map}
 use borrow.Author.Count.{below-none, below-more}
@@ -14,7 +14,7 @@ use Rattle.lists.proofs.Laws.{from-length}
 use Rattle.bits.specs.Bits.{field}
 use Rattle.bits.proofs.Laws.{field-zero}
 use Rattle.packed.specs.Packed.{nodeCount, edgeCount, edgeAt, edgeFrom, edgeOffset, usedBits, labelAt, graphOf}
-use Rattle.packed.specs.Refusals.{tooShort, tooManyNodes, tooManyEdges, wrongLength, paddingBit, unknownNode, names, reading, graph}
+use Rattle.packed.specs.Refusals.{tooShort, tooManyNodes, tooManyEdges, wrongLength, paddingBit, unknownNode, namesUnknown, reading, graph}
 use Rattle.packed.specs.Paper.{counts, summary, refused}
 use Rattle.packed.proofs.First.{test, fileTests, reading-refusal}
 use Rattle.packed.proofs.Accepted.{accepts}
@@ -47,7 +47,7 @@ module _ (s : List ℕ) where
     padding : (x : ℕ) → x ≡ field s used (8 * length s - used) → paddingBit s ≡ not (eqb x 0)
     padding x h = rw (← nq, ← eq, ← uq, field-zero s used (8 * length s - used), h)
 
-    unknown : (r : Bool) → r ≡ any (λ j. names n (edgeFrom s (edgeOffset n j))) (from 0 e) → unknownNode s ≡ r
+    unknown : (r : Bool) → r ≡ any (λ j. namesUnknown n (edgeFrom s (edgeOffset n j))) (from 0 e) → unknownNode s ≡ r
     unknown r h = rw (← nq, ← eq, h)
 
     summary-of-graph : (k : ℕ) → k ≡ field s 0 1 → counts (eqb k 1) n e ≡ summary (graph (graphOf s))

@@ -1,0 +1,1 @@
+// Laws: the tests over the arrays are the rules of the search.
