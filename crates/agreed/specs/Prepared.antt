@@ -15,6 +15,7 @@ use Rattle.feasible.specs.declared.Switches.{Switches}
 pub record Prepared (g : Graph) (n edges : ℕ) (matrix words labels : List ℕ) : Type 0 where
   pub nodes-are : nodes g ≡ n
   pub nodes-most : n ≤ 128
+  pub edges-most : edges ≤ 1024
   pub cells : cell matrix ≡ between g
   pub within : Within n (g .edges)
   pub words-are : edgesIn words edges ≡ g .edges
