@@ -62,7 +62,7 @@ facing-cells : (d : Direction) (g : Graph) (m : List ℕ) → cell m ≡ between
 facing-cells Outgoing g m h = h
 facing-cells Incoming g m h = fun-ext (λ a. fun-ext (λ b. ap (λ f. f b a) h ∙ sym (between-turned g a b)))
 
-second-cells : (g : Graph) (m : List ℕ) → cell m ≡ between g → second m ≡ (λ u w. between g w u)
+pub second-cells : (g : Graph) (m : List ℕ) → cell m ≡ between g → second m ≡ (λ u w. between g w u)
 second-cells g m h = ap (λ f u w. f w u) h
 
 -- partners that agree on the nodes carry the entries of a walk alike

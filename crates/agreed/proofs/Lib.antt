@@ -1,1 +1,2 @@
 pub mod Feasible
+pub mod Candidates
