@@ -1,21 +1,21 @@
 -- The candidate and the next node over the arrays are the rules', for states that agree with the pairs.
-use Prim.Native.Nat.{ℕ, suc, _+_, _-_, _≤_, _<_}
-use mathlib.Core.Bool.{Bool, true, false, _&&_, not}
+use Prim.Native.Nat.{ℕ, _+_, _-_, _≤_, _<_}
+use mathlib.Core.Bool.{Bool}
 use mathlib.Core.List.{List, [], _∷_}
-use mathlib.Core.Option.{Option, none, some}
-use mathlib.Core.Path.{_≡_, refl, sym, _∙_, ap}
+use mathlib.Core.Option.{some}
+use mathlib.Core.Path.{_≡_, sym, _∙_, ap}
 use native.Mathlib.Omega.{arith}
 use lib.Dec.{eqb}
 use native.Mathlib.Numerals.{add-one}
-use Rattle.lists.specs.Lists.{Distinct, from, member}
+use Rattle.lists.specs.Lists.{Distinct}
 use Rattle.lists.proofs.Tests.{case}
-use Rattle.lists.proofs.Laws.{keep-same-run, from-end}
+use Rattle.lists.proofs.Laws.{keep-same-run}
 use Rattle.packed.specs.Graph.{Graph, nodes}
 use Rattle.graph.specs.Walk.{between}
 use Rattle.graph.specs.Matrix.{cell}
 use Rattle.rules.specs.Task.{Task, Pairs, exchanged, mapped, partner}
 use Rattle.rules.specs.Marks as Rule
-use Rattle.rules.specs.Marks.{follows, head, least}
+use Rattle.rules.specs.Marks.{head, least}
 use Rattle.rules.proofs.Laws.{none-not-some, partner-nil, partner-own, partner-other}
 use Rattle.state.specs.State.{second, Agrees}
 use Rattle.state.specs.declared.Vf2State.{Vf2State}
