@@ -1,0 +1,5 @@
+pub mod Sums
+pub mod Labels
+pub mod Equal
+pub mod Kept
+pub mod Symmetries

@@ -1,0 +1,65 @@
+-- What is claimed of placements and of the search for them (document 01, "Placement" and "The search").
+use Prim.Native.Nat.{ℕ, _<_}
+use mathlib.Core.Bool.{Bool, true, false, _&&_}
+use mathlib.Core.List.{List, [], _∷_, map}
+use mathlib.Core.Path.{_≡_}
+use lib.ListN.{length}
+use Rattle.lists.specs.Lists.{from, place}
+use Rattle.packed.specs.Graph.{Edge, Graph, nodes}
+use Rattle.packed.specs.Settings.{Settings}
+use Rattle.graph.specs.Within.{Within}
+use Rattle.rules.specs.Task.{Task, agree}
+use Rattle.rules.specs.Placement.{Placement}
+
+-- What two accepted files of one kind ensure
+
+abbrev pub LabelsBelow : ℕ → List Edge → Type 0
+LabelsBelow n [] = Unit
+LabelsBelow n (e ∷ es) = (e .label < n) × LabelsBelow n es
+
+-- edges name nodes, and a label has 6 bits
+pub record AcceptedFile (g : Graph) : Type 0 where
+  pub edges-within : Within (nodes g) (g .edges)
+  pub labels-below : LabelsBelow 64 (g .edges)
+
+pub record OfOneKind (g₀ g₁ : Graph) : Type 0 where
+  pub accepted₀ : AcceptedFile g₀
+  pub accepted₁ : AcceptedFile g₁
+  pub same-kind : g₁ .directed ≡ g₀ .directed
+
+abbrev pub Sound : Task → Type 0
+Sound t = OfOneKind (t .graph₀) (t .graph₁)
+
+-- counts agree when the node counts, and likewise the edge counts, are equal or, under Greater, those of graph 0 are larger
+abbrev pub graphsAgree : Settings → Graph → Graph → Bool
+graphsAgree s g₀ g₁ =
+    agree (s .greater) (nodes g₀) (nodes g₁) && agree (s .greater) (length (g₀ .edges)) (length (g₁ .edges))
+
+-- Placements among themselves
+
+abbrev pub Identity : Type 0
+Identity = (s : Settings) (g : Graph) → Placement s g g (λ a. a)
+
+abbrev pub Chained : Type 0
+Chained =
+    (s : Settings) (g₀ g₁ g₂ : Graph) (φ ψ : ℕ → ℕ) → Placement s g₀ g₁ φ → Placement s g₁ g₂ ψ → Placement s g₀ g₂ (λ a. φ (ψ a))
+
+abbrev pub CountsChained : Type 0
+CountsChained =
+    (s : Settings) (g₀ g₁ g₂ : Graph) → graphsAgree s g₀ g₁ ≡ true → graphsAgree s g₁ g₂ ≡ true → graphsAgree s g₀ g₂ ≡ true
+
+-- the node that φ sends to a
+unfoldable pub reverse : ℕ → (ℕ → ℕ) → ℕ → ℕ
+unfolding from place
+reverse n φ a = place a (map φ (from 0 n))
+
+-- under Equal a placement can be turned round
+pub record Reverse (s : Settings) (g₀ g₁ : Graph) (φ : ℕ → ℕ) : Type 0 where
+  pub is-placement : Placement s g₁ g₀ (reverse (nodes g₁) φ)
+  pub there-and-back : (a : ℕ) → a < nodes g₀ → φ (reverse (nodes g₁) φ a) ≡ a
+  pub back-and-there : (a : ℕ) → a < nodes g₁ → reverse (nodes g₁) φ (φ a) ≡ a
+
+abbrev pub Reversed : Type 0
+Reversed =
+    (s : Settings) (g₀ g₁ : Graph) (φ : ℕ → ℕ) → s .greater ≡ false → OfOneKind g₀ g₁ → graphsAgree s g₀ g₁ ≡ true
+    → Placement s g₀ g₁ φ → Reverse s g₀ g₁ φ
