@@ -3,3 +3,4 @@ pub mod Labels
 pub mod Equal
 pub mod Kept
 pub mod Symmetries
+pub mod Renumbered

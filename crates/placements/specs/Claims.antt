@@ -3,12 +3,13 @@ use Prim.Native.Nat.{ℕ, _<_}
 use mathlib.Core.Bool.{Bool, true, false, _&&_}
 use mathlib.Core.List.{List, [], _∷_, map}
 use mathlib.Core.Path.{_≡_}
-use lib.ListN.{length}
+use lib.ListN.{length, getD}
 use Rattle.lists.specs.Lists.{from, place}
 use Rattle.packed.specs.Graph.{Edge, Graph, nodes}
 use Rattle.packed.specs.Settings.{Settings}
 use Rattle.graph.specs.Within.{Within}
-use Rattle.rules.specs.Task.{Task, agree}
+use Rattle.order.specs.Order.{nodeOrder}
+use Rattle.rules.specs.Task.{Task, taskOf, agree, countsAgree}
 use Rattle.rules.specs.Placement.{Placement}
 
 -- What two accepted files of one kind ensure
@@ -63,3 +64,23 @@ abbrev pub Reversed : Type 0
 Reversed =
     (s : Settings) (g₀ g₁ : Graph) (φ : ℕ → ℕ) → s .greater ≡ false → OfOneKind g₀ g₁ → graphsAgree s g₀ g₁ ≡ true
     → Placement s g₀ g₁ φ → Reverse s g₀ g₁ φ
+
+-- Ids and positions: both graphs are renumbered by their own order
+
+module _ (s : Settings) (g₀ g₁ : Graph) where
+  -- a map of ids, seen at positions, and back
+  abbrev pub onPositions : (ℕ → ℕ) → ℕ → ℕ
+  onPositions φ w = place (φ (getD (nodeOrder (s .vf2pp) g₁) w 0)) (nodeOrder (s .vf2pp) g₀)
+
+  abbrev pub onIds : (ℕ → ℕ) → ℕ → ℕ
+  onIds ψ v = getD (nodeOrder (s .vf2pp) g₀) (ψ (place v (nodeOrder (s .vf2pp) g₁))) 0
+
+  pub record Renumbered : Type 0 where
+    pub sound : Sound (taskOf s g₀ g₁)
+    pub counts : countsAgree (taskOf s g₀ g₁) ≡ graphsAgree s g₀ g₁
+    pub to-positions : (φ : ℕ → ℕ) → Placement s g₀ g₁ φ → Placement s (taskOf s g₀ g₁ .graph₀) (taskOf s g₀ g₁ .graph₁) (onPositions φ)
+    pub to-ids : (ψ : ℕ → ℕ) → Placement s (taskOf s g₀ g₁ .graph₀) (taskOf s g₀ g₁ .graph₁) ψ → Placement s g₀ g₁ (onIds ψ)
+    -- and nothing is lost on the way
+    pub ids-again : (φ : ℕ → ℕ) → Placement s g₀ g₁ φ → (v : ℕ) → v < nodes g₁ → onIds (onPositions φ) v ≡ φ v
+    pub positions-again : (ψ : ℕ → ℕ) → Placement s (taskOf s g₀ g₁ .graph₀) (taskOf s g₀ g₁ .graph₁) ψ
+        → (w : ℕ) → w < nodes (taskOf s g₀ g₁ .graph₁) → onPositions (onIds ψ) w ≡ ψ w
