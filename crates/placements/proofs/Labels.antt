@@ -33,7 +33,7 @@ joins-undirected : (a b : ℕ) (e : Edge) → joins false a b e ≡ joins false 
 joins-undirected a b e = or-comm (eqb (e .source) a && eqb (e .target) b) (eqb (e .source) b && eqb (e .target) a)
 
 -- the edges from a to b that pass a test
-abbrev passing : Bool → (Edge → Bool) → List Edge → ℕ → ℕ → ℕ
+abbrev pub passing : Bool → (Edge → Bool) → List Edge → ℕ → ℕ → ℕ
 passing directed q es a b = count (λ e. joins directed a b e && q e) es
 
 passing-turned : (directed : Bool) (q : Edge → Bool) (es : List Edge) (a b : ℕ) → ((e : Edge) → q (turn e) ≡ q e)
@@ -69,7 +69,7 @@ pub labelled-turned : (g : Graph) (l a b : ℕ) → labelledBetween (turned g) l
 labelled-turned g l a b = passing-turned (g .directed) (λ e. eqb (e .label) l) (g .edges) a b (λ e. refl)
 
 -- each edge has one label
-labelled-cons : (directed : Bool) (l a b : ℕ) (e : Edge) (es : List Edge)
+pub labelled-cons : (directed : Bool) (l a b : ℕ) (e : Edge) (es : List Edge)
     → passing directed (λ e. eqb (e .label) l) (e ∷ es) a b
     ≡ cond (eqb l (e .label)) (cond (joins directed a b e) 1 0) 0 + passing directed (λ e. eqb (e .label) l) es a b
 labelled-cons directed l a b e es =

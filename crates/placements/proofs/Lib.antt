@@ -4,3 +4,7 @@ pub mod Equal
 pub mod Kept
 pub mod Symmetries
 pub mod Renumbered
+pub mod Subset
+pub mod Tests
+pub mod Along
+pub mod Passes
