@@ -8,3 +8,5 @@ pub mod Subset
 pub mod Tests
 pub mod Along
 pub mod Passes
+pub mod Candidates
+pub mod Paths
