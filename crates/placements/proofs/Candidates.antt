@@ -15,7 +15,7 @@ use Rattle.rules.specs.Task.{Task, Pairs, exchanged, mapped}
 use Rattle.rules.specs.Marks.{OpenList, Out, In, Other, inList, head, least, Candidate, both, orElse, leastOf, candidate}
 use Rattle.rules.specs.Search.{pairsOf, candidateAt, nodeOf, inItsList, offered}
 
-head-member : (l : List ℕ) (x : ℕ) → head l ≡ some x → member x l ≡ true
+pub head-member : (l : List ℕ) (x : ℕ) → head l ≡ some x → member x l ≡ true
 head-member [] x e = absurd (let z : _≡_ {A = ℕ} 0 1 = cc in omega arith)
 head-member (y ∷ l) x e = let z : y ≡ x = cc in rw z (member-head x l)
 

@@ -10,3 +10,6 @@ pub mod Along
 pub mod Passes
 pub mod Candidates
 pub mod Paths
+pub mod Placed
+pub mod Steps
+pub mod Accepted

@@ -9,7 +9,8 @@ use Rattle.packed.specs.Graph.{Edge, Graph, nodes}
 use Rattle.packed.specs.Settings.{Settings}
 use Rattle.graph.specs.Within.{Within}
 use Rattle.order.specs.Order.{nodeOrder}
-use Rattle.rules.specs.Task.{Task, taskOf, agree, countsAgree}
+use Rattle.rules.specs.Task.{Task, taskOf, agree, countsAgree, exchanged, partner}
+use Rattle.rules.specs.Search.{Record, started, pairsOf, imageOf, Found, continue, acceptedRecord}
 use Rattle.rules.specs.Placement.{Placement}
 
 -- What two accepted files of one kind ensure
@@ -84,3 +85,24 @@ module _ (s : Settings) (g₀ g₁ : Graph) where
     pub ids-again : (φ : ℕ → ℕ) → Placement s g₀ g₁ φ → (v : ℕ) → v < nodes g₁ → onIds (onPositions φ) v ≡ φ v
     pub positions-again : (ψ : ℕ → ℕ) → Placement s (taskOf s g₀ g₁ .graph₀) (taskOf s g₀ g₁ .graph₁) ψ
         → (w : ℕ) → w < nodes (taskOf s g₀ g₁ .graph₁) → onPositions (onIds ψ) w ≡ ψ w
+
+-- The search finds placements
+
+module _ (t : Task) where
+  -- the image of a graph-1 position in the map that a path shows
+  abbrev pub imageIn : List ℕ → ℕ → ℕ
+  imageIn path w = imageOf t (partner (exchanged (pairsOf t path)) w)
+
+  abbrev pub Places : (ℕ → ℕ) → Type 0
+  Places φ = Placement (t .settings) (t .graph₀) (t .graph₁) φ
+
+  -- whatever the limit and the budgets, from an accepted record only accepted ones follow
+  pub record AcceptedStays : Type 0 where
+    pub at-start : acceptedRecord t started ≡ true
+    pub onward : (budget : ℕ) (r : Record) → acceptedRecord t r ≡ true → acceptedRecord t (continue t budget r .record′) ≡ true
+
+  -- and each map found is a placement
+  abbrev pub EveryMapPlaces : Type 0
+  EveryMapPlaces =
+      (budget : ℕ) (r : Record) → acceptedRecord t r ≡ true → continue t budget r .answer ≡ Found
+      → Places (imageIn (continue t budget r .record′ .path))
