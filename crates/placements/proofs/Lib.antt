@@ -13,3 +13,5 @@ pub mod Paths
 pub mod Placed
 pub mod Steps
 pub mod Accepted
+pub mod Searched
+pub mod Bound

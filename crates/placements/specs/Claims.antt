@@ -1,10 +1,10 @@
 -- What is claimed of placements and of the search for them (document 01, "Placement" and "The search").
-use Prim.Native.Nat.{ℕ, _<_}
+use Prim.Native.Nat.{ℕ, zero, suc, _+_, _-_, _*_, _≤_, _<_}
 use mathlib.Core.Bool.{Bool, true, false, _&&_}
 use mathlib.Core.List.{List, [], _∷_, map}
 use mathlib.Core.Path.{_≡_}
 use lib.ListN.{length, getD}
-use Rattle.lists.specs.Lists.{from, place}
+use Rattle.lists.specs.Lists.{from, total, place}
 use Rattle.packed.specs.Graph.{Edge, Graph, nodes}
 use Rattle.packed.specs.Settings.{Settings}
 use Rattle.graph.specs.Within.{Within}
@@ -106,3 +106,14 @@ module _ (t : Task) where
   EveryMapPlaces =
       (budget : ℕ) (r : Record) → acceptedRecord t r ≡ true → continue t budget r .answer ≡ Found
       → Places (imageIn (continue t budget r .record′ .path))
+
+-- The listing
+
+-- n!/(n-k)!, the product of k numbers from n downward
+unfoldable pub falling : ℕ → ℕ → ℕ
+falling n zero = 1
+falling n (suc k) = n * falling (n - 1) k
+
+-- the sum of n!/(n-j)! for j from 0 to k
+abbrev pub permutations : ℕ → ℕ → ℕ
+permutations n k = total (falling n) (from 0 (suc k))
