@@ -15,3 +15,4 @@ pub mod Steps
 pub mod Accepted
 pub mod Searched
 pub mod Bound
+pub mod Once

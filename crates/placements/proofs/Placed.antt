@@ -40,7 +40,7 @@ implies-elim false b e h = never false h refl
 none-some : {C : Type 0} (o : Option ℕ) (x : ℕ) → o ≡ none → o ≡ some x → C
 none-some o x e f = absurd (let z : _≡_ {A = ℕ} 0 1 = cc in omega arith)
 
-partner-mapped : (ps : Pairs) (x y : ℕ) → partner ps x ≡ some y → member x (mapped ps) ≡ true
+pub partner-mapped : (ps : Pairs) (x y : ℕ) → partner ps x ≡ some y → member x (mapped ps) ≡ true
 partner-mapped ps x y e = partner-member ps x ∙ rw e
 
 mapped-partner : {C : Type 0} (ps : Pairs) (x : ℕ) → member x (mapped ps) ≡ true → ((y : ℕ) → partner ps x ≡ some y → C) → C

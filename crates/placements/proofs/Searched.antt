@@ -37,11 +37,11 @@ first-kept p (suc k) i x r e =
     let same : i + suc k ≡ suc i + k = omega arith in
     (rw same (further .0), omega arith, omega arith))
 
-joined-nil : (f : ℕ → List (List ℕ)) → joined f [] ≡ []
+pub joined-nil : (f : ℕ → List (List ℕ)) → joined f [] ≡ []
 unfolding joined
 joined-nil f = refl
 
-joined-cons : (f : ℕ → List (List ℕ)) (x : ℕ) (xs : List ℕ) → joined f (x ∷ xs) ≡ f x ++ joined f xs
+pub joined-cons : (f : ℕ → List (List ℕ)) (x : ℕ) (xs : List ℕ) → joined f (x ∷ xs) ≡ f x ++ joined f xs
 unfolding joined
 joined-cons f x xs = refl
 
@@ -169,7 +169,7 @@ module _ (t : Task) where
         → Search path Outer (suc s) m (itself t path ++ o) end last
     alone path e x = case (whole t path) (λ w. rw w (found e w x)) (λ w. rw w (closed e w x))
 
-    or-others : (path l : List ℕ) (x : ℕ) (maps : List (List ℕ)) → head l ≡ some x → orItself t path l maps ≡ maps
+    pub or-others : (path l : List ℕ) (x : ℕ) (maps : List (List ℕ)) → head l ≡ some x → orItself t path l maps ≡ maps
     or-others path [] x maps e = absurd (let z : _≡_ {A = ℕ} 0 1 = cc in omega arith)
     or-others path (y ∷ l) x maps e = refl
 

@@ -23,12 +23,12 @@ use Rattle.placements.proofs.Sums.{sum, sum-same, sum-zero, sum-add, su
 use Rattle.placements.proofs.Labels.{labelled-cons, passing}
 use Rattle.placements.proofs.Subset.{same, occurs, subset-counts}
 
-all-intro : (p : ℕ → Bool) (k i : ℕ) → ((x : ℕ) → i ≤ x → x < i + k → p x ≡ true) → all p (from i k) ≡ true
+pub all-intro : (p : ℕ → Bool) (k i : ℕ) → ((x : ℕ) → i ≤ x → x < i + k → p x ≡ true) → all p (from i k) ≡ true
 all-intro p zero i h = rw (from-none i) (all-nil p)
 all-intro p (suc k) i h =
     rw (from-suc i k, all-cons p i (from (suc i) k)) (and-intro (h i (omega arith) (omega arith)) (all-intro p k (suc i) (λ x a b. h x (omega arith) (omega arith))))
 
-all-elim : (p : ℕ → Bool) (k i : ℕ) → all p (from i k) ≡ true → (x : ℕ) → i ≤ x → x < i + k → p x ≡ true
+pub all-elim : (p : ℕ → Bool) (k i : ℕ) → all p (from i k) ≡ true → (x : ℕ) → i ≤ x → x < i + k → p x ≡ true
 all-elim p zero i h x a b = absurd (omega arith)
 all-elim p (suc k) i h x a b =
     let both = rw (from-suc i k, all-cons p i (from (suc i) k)) at h in

@@ -3,6 +3,7 @@ use Prim.Native.Nat.{ℕ, zero, suc, _+_, _-_, _*_, _≤_, _<_}
 use mathlib.Core.Bool.{Bool, true, false, _&&_}
 use mathlib.Core.List.{List, [], _∷_, map}
 use mathlib.Core.Path.{_≡_}
+use lib.Dec.{eqb}
 use lib.ListN.{length, getD}
 use Rattle.lists.specs.Lists.{from, total, place}
 use Rattle.packed.specs.Graph.{Edge, Graph, nodes}
@@ -10,6 +11,7 @@ use Rattle.packed.specs.Settings.{Settings}
 use Rattle.graph.specs.Within.{Within}
 use Rattle.order.specs.Order.{nodeOrder}
 use Rattle.rules.specs.Task.{Task, taskOf, agree, countsAgree, exchanged, partner}
+use Rattle.rules.specs.Acceptable.{all}
 use Rattle.rules.specs.Search.{Record, started, pairsOf, imageOf, Found, continue, acceptedRecord}
 use Rattle.rules.specs.Placement.{Placement}
 
@@ -108,6 +110,15 @@ module _ (t : Task) where
       → Places (imageIn (continue t budget r .record′ .path))
 
 -- The listing
+
+-- each element of a list
+abbrev pub Each : {A : Type 0} → (A → Type 0) → List A → Type 0
+Each P [] = Unit
+Each P (x ∷ xs) = P x × Each P xs
+
+-- a path shows φ where all images are equal
+abbrev pub shows : Task → (ℕ → ℕ) → List ℕ → Bool
+shows t φ path = all (λ w. eqb (imageIn t path w) (φ w)) (from 0 (nodes (t .graph₁)))
 
 -- n!/(n-k)!, the product of k numbers from n downward
 unfoldable pub falling : ℕ → ℕ → ℕ
