@@ -16,3 +16,5 @@ pub mod Accepted
 pub mod Searched
 pub mod Bound
 pub mod Once
+pub mod Unlimited
+pub mod Trace

@@ -94,7 +94,7 @@ module _ (t : Task) where
   unfolding stepsFrom
   steps-last path = refl
 
-  pairs-last : (path : List ℕ) → pairsFrom t 0 path ≡ 0
+  pub pairs-last : (path : List ℕ) → pairsFrom t 0 path ≡ 0
   unfolding pairsFrom
   pairs-last path = refl
 

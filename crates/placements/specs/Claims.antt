@@ -14,6 +14,8 @@ use Rattle.rules.specs.Task.{Task, taskOf, agree, countsAgree, exchanged, partn
 use Rattle.rules.specs.Acceptable.{all}
 use Rattle.rules.specs.Search.{Record, started, pairsOf, imageOf, Found, continue, acceptedRecord}
 use Rattle.rules.specs.Placement.{Placement}
+use Rattle.placements.specs.Listed.{listed, stepsOf, acceptedOf}
+use Rattle.placements.specs.Calls.{unlimited}
 
 -- What two accepted files of one kind ensure
 
@@ -128,3 +130,9 @@ falling n (suc k) = n * falling (n - 1) k
 -- the sum of n!/(n-j)! for j from 0 to k
 abbrev pub permutations : ℕ → ℕ → ℕ
 permutations n k = total (falling n) (from 0 (suc k))
+
+-- what `Listed` defines of a task is the same without a limit
+pub record LimitPlaysNoPart (t : Task) : Type 0 where
+  pub same-maps : listed (unlimited t) ≡ listed t
+  pub same-steps : stepsOf (unlimited t) ≡ stepsOf t
+  pub same-accepted : acceptedOf (unlimited t) ≡ acceptedOf t
