@@ -18,3 +18,5 @@ pub mod Bound
 pub mod Once
 pub mod Unlimited
 pub mod Trace
+pub mod Continued
+pub mod Called

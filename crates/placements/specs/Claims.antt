@@ -2,6 +2,7 @@
 use Prim.Native.Nat.{ℕ, zero, suc, _+_, _-_, _*_, _≤_, _<_}
 use mathlib.Core.Bool.{Bool, true, false, _&&_}
 use mathlib.Core.List.{List, [], _∷_, map}
+use mathlib.Core.Option.{Option, none, some}
 use mathlib.Core.Path.{_≡_}
 use lib.Dec.{eqb}
 use lib.ListN.{length, getD}
@@ -136,3 +137,7 @@ pub record LimitPlaysNoPart (t : Task) : Type 0 where
   pub same-maps : listed (unlimited t) ≡ listed t
   pub same-steps : stepsOf (unlimited t) ≡ stepsOf t
   pub same-accepted : acceptedOf (unlimited t) ≡ acceptedOf t
+
+-- a limit has at most its maximum
+abbrev pub LimitMost : Task → Type 0
+LimitMost t = (limit : ℕ) → t .settings .limit ≡ some limit → limit ≤ 4294967294
