@@ -13,7 +13,7 @@ use Rattle.rules.specs.Task.{Task, countsAgree}
 use Rattle.rules.specs.Search.{Top, Outer, Inner, Unwind, Record, started, above, Answer, Found, None, Limit, Paused, Went, run, continue}
 use Rattle.placements.specs.Listed.{listed, stepsOf, acceptedOf}
 use Rattle.placements.specs.Calls.{Called, after-call, last-call, calls}
-use Rattle.placements.specs.Claims.{Each, LimitMost}
+use Rattle.placements.specs.Claims.{Each, AtLeastOne, LimitMost}
 use Rattle.placements.proofs.Searched.{nothing, searched}
 use Rattle.placements.proofs.Continued.{Point, Exceeded, Ran, ran-none, ran-limit, ran-found, ran-paused, run-from}
 
@@ -39,9 +39,6 @@ module _ (t : Task) where
     calls-limit : continue t b r .answer ≡ Limit → calls t (b ∷ bs) r ≡ last-call t (continue t b r)
     unfolding calls
     calls-limit e = rw (e, calls) (λ i. record { maps = []; steps = continue t b r .steps; ending = some (e i); record′ = continue t b r .record′ })
-
-  abbrev pub AtLeastOne : List ℕ → Type 0
-  AtLeastOne budgets = Each (λ b. 1 ≤ b) budgets
 
   -- what calls come to, from a point with s steps and these maps behind it
   pub data Ends (budgets : List ℕ) (done : List (List ℕ)) (s : ℕ) (w : Called t) : Type 0 where

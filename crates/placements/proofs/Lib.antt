@@ -20,3 +20,4 @@ pub mod Unlimited
 pub mod Trace
 pub mod Continued
 pub mod Called
+pub mod Listing

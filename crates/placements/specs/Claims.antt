@@ -1,22 +1,22 @@
 -- What is claimed of placements and of the search for them (document 01, "Placement" and "The search").
-use Prim.Native.Nat.{ℕ, zero, suc, _+_, _-_, _*_, _≤_, _<_}
-use mathlib.Core.Bool.{Bool, true, false, _&&_}
-use mathlib.Core.List.{List, [], _∷_, map}
+use Prim.Native.Nat.{ℕ, zero, suc, _+_, _-_, _*_, _≤_, _<_, min}
+use mathlib.Core.Bool.{Bool, true, false, cond, _&&_}
+use mathlib.Core.List.{List, [], _∷_, _++_, map}
 use mathlib.Core.Option.{Option, none, some}
 use mathlib.Core.Path.{_≡_}
-use lib.Dec.{eqb}
+use lib.Dec.{eqb, ltb}
 use lib.ListN.{length, getD}
-use Rattle.lists.specs.Lists.{from, total, place}
+use Rattle.lists.specs.Lists.{from, count, total, place}
 use Rattle.packed.specs.Graph.{Edge, Graph, nodes}
 use Rattle.packed.specs.Settings.{Settings}
 use Rattle.graph.specs.Within.{Within}
 use Rattle.order.specs.Order.{nodeOrder}
 use Rattle.rules.specs.Task.{Task, taskOf, agree, countsAgree, exchanged, partner}
 use Rattle.rules.specs.Acceptable.{all}
-use Rattle.rules.specs.Search.{Record, started, pairsOf, imageOf, Found, continue, acceptedRecord}
+use Rattle.rules.specs.Search.{Record, started, pairsOf, imageOf, Answer, Found, None, Limit, continue, acceptedRecord}
 use Rattle.rules.specs.Placement.{Placement}
-use Rattle.placements.specs.Listed.{listed, stepsOf, acceptedOf}
-use Rattle.placements.specs.Calls.{unlimited}
+use Rattle.placements.specs.Listed.{whole, listed, stepsOf, acceptedOf}
+use Rattle.placements.specs.Calls.{Called, calls, unlimited, after, acceptedIn, foundIn}
 
 -- What two accepted files of one kind ensure
 
@@ -138,6 +138,57 @@ pub record LimitPlaysNoPart (t : Task) : Type 0 where
   pub same-steps : stepsOf (unlimited t) ≡ stepsOf t
   pub same-accepted : acceptedOf (unlimited t) ≡ acceptedOf t
 
+-- where counts don't agree, there is no map
+abbrev pub NoMap : Task → Type 0
+NoMap t = (budget : ℕ) (r : Record) → continue t budget r ≡ record { answer = None; steps = 0; record′ = r }
+
+-- Calls from Start, whatever the budgets and the limit, by what the search without a limit does in as many steps
+
+pub record FromStart (t : Task) (c : Called t) : Type 0 where
+  -- the maps are the first ones of the listing
+  pub first-maps : (rest : List (List ℕ)) × (c .maps ++ rest ≡ listed t)
+  pub found : c .maps ≡ foundIn (unlimited t) (c .steps) started
+  -- the accepted count is the number of pairs accepted
+  pub accepted : c .record′ .accepted ≡ min (acceptedIn (unlimited t) (c .steps) started) 4294967295
+  -- over the limit nothing else changes
+  pub path-there : (c .ending ≡ some Limit → ⊥) → c .record′ .path ≡ after (unlimited t) (c .steps) started .path
+  pub top-there : (c .ending ≡ some Limit → ⊥) → c .record′ .top ≡ after (unlimited t) (c .steps) started .top
+  pub steps-most : c .steps ≤ stepsOf t
+
+-- budgets change neither the maps nor their order nor the ending, nor anything else of what all calls together come to
+abbrev pub BudgetsAlike : Task → Type 0
+BudgetsAlike t =
+    (budgets others : List ℕ) (a b : Answer t) → calls t budgets started .ending ≡ some a → calls t others started .ending ≡ some b
+    → calls t budgets started ≡ calls t others started
+
+abbrev pub AtLeastOne : List ℕ → Type 0
+AtLeastOne budgets = Each (λ b. 1 ≤ b) budgets
+
+-- without a limit, where counts agree, the listing is all placements
+pub record Listing (t : Task) : Type 0 where
+  pub all-place : Each (λ path. (whole t path ≡ true) × Places t (imageIn t path)) (listed t)
+  pub each-once : (φ : ℕ → ℕ) → Places t φ → count (shows t φ) (listed t) ≡ 1
+  pub calls-first : (budgets : List ℕ) → FromStart t (calls t budgets started)
+  pub calls-whole : (budgets : List ℕ) (a : Answer t) → calls t budgets started .ending ≡ some a
+      → (a ≡ None) × (calls t budgets started .maps ≡ listed t) × (calls t budgets started .steps ≡ stepsOf t)
+  pub calls-end : (budgets : List ℕ) → AtLeastOne budgets → stepsOf t < length budgets → calls t budgets started .ending ≡ some None
+  pub budgets-alike : BudgetsAlike t
+  pub steps-within : stepsOf t ≤ (nodes (t .graph₀) + 2) * permutations (nodes (t .graph₀)) (nodes (t .graph₁))
+
 -- a limit has at most its maximum
 abbrev pub LimitMost : Task → Type 0
 LimitMost t = (limit : ℕ) → t .settings .limit ≡ some limit → limit ≤ 4294967294
+
+-- with a limit, the ending is Limit exactly where the search without one accepts more pairs
+pub record Limited (t : Task) (limit : ℕ) : Type 0 where
+  pub calls-first : (budgets : List ℕ) → FromStart t (calls t budgets started)
+  pub accepted-exact : (budgets : List ℕ) → calls t budgets started .record′ .accepted ≡ acceptedIn (unlimited t) (calls t budgets started .steps) started
+  pub ending : (budgets : List ℕ) (a : Answer t) → calls t budgets started .ending ≡ some a → a ≡ cond (ltb limit (acceptedOf t)) Limit None
+  pub ended-none : (budgets : List ℕ) → calls t budgets started .ending ≡ some None
+      → (calls t budgets started .maps ≡ listed t) × (calls t budgets started .steps ≡ stepsOf t)
+  -- it ends at the step that accepts one pair more than the limit
+  pub ended-limit : (budgets : List ℕ) → calls t budgets started .ending ≡ some Limit
+      → (s : ℕ) × (calls t budgets started .steps ≡ suc s) × (acceptedIn (unlimited t) s started ≡ limit) × (acceptedIn (unlimited t) (suc s) started ≡ suc limit)
+  pub calls-end : (budgets : List ℕ) → AtLeastOne budgets → stepsOf t < length budgets
+      → calls t budgets started .ending ≡ some (cond (ltb limit (acceptedOf t)) Limit None)
+  pub budgets-alike : BudgetsAlike t
