@@ -21,3 +21,4 @@ pub mod Trace
 pub mod Continued
 pub mod Called
 pub mod Listing
+pub mod Records

@@ -22,7 +22,7 @@ use Rattle.placements.proofs.Candidates.{inList₀, candidate-least, of
 use Rattle.placements.proofs.Paths.{accepted-nil, accepted-longer, tried-offered, tried-none, no-candidate, whole-at}
 
 -- what is kept after the first that is kept
-first-kept : (p : ℕ → Bool) (k i x : ℕ) (r : List ℕ) → keep p (from i k) ≡ x ∷ r → (keep p (from (suc x) (i + k - suc x)) ≡ r) × (i ≤ x) × (x < i + k)
+pub first-kept : (p : ℕ → Bool) (k i x : ℕ) (r : List ℕ) → keep p (from i k) ≡ x ∷ r → (keep p (from (suc x) (i + k - suc x)) ≡ r) × (i ≤ x) × (x < i + k)
 first-kept p zero i x r e = absurd (nil≢cons (sym (keep-nil p) ∙ (rw (from-none i) at e)))
 first-kept p (suc k) i x r e =
     case (p i)

@@ -192,3 +192,10 @@ pub record Limited (t : Task) (limit : ℕ) : Type 0 where
   pub calls-end : (budgets : List ℕ) → AtLeastOne budgets → stepsOf t < length budgets
       → calls t budgets started .ending ≡ some (cond (ltb limit (acceptedOf t)) Limit None)
   pub budgets-alike : BudgetsAlike t
+
+-- The records that are accepted are those that the search passes on its way from Start, the accepted count aside
+
+pub record Records (t : Task) : Type 0 where
+  pub passed-accepted : (s : ℕ) → acceptedRecord t (after (unlimited t) s started) ≡ true
+  pub accepted-passed : (r : Record) → acceptedRecord t r ≡ true
+      → (s : ℕ) × (s ≤ stepsOf t) × (after (unlimited t) s started .path ≡ r .path) × (after (unlimited t) s started .top ≡ r .top)
