@@ -22,3 +22,4 @@ pub mod Continued
 pub mod Called
 pub mod Listing
 pub mod Records
+pub mod Ids

@@ -29,7 +29,7 @@ use Rattle.placements.proofs.Called.{Ends, ends-open, ends-none, ends-l
 pub no-map : (t : Task) → countsAgree t ≡ false → NoMap t
 no-map t e b r = run-stops t b 0 r None (rw e)
 
-each-map : {A : Type 0} (P Q : A → Type 0) (xs : List A) → ((x : A) → P x → Q x) → Each P xs → Each Q xs
+pub each-map : {A : Type 0} (P Q : A → Type 0) (xs : List A) → ((x : A) → P x → Q x) → Each P xs → Each Q xs
 each-map P Q [] f e = tt
 each-map P Q (x ∷ xs) f e = (f x (e .0), each-map P Q xs f (e .1))
 
@@ -59,6 +59,7 @@ module _ (t : Task) where
         path-there = λ o. rw same (sym (x .path-is));
         top-there = λ o. rw same (sym (x .top-is));
         steps-most = omega (arith, p .steps-sum);
+        steps-within = omega (arith, p .steps-sum, steps-within t);
       }
   from-start most budgets w (ends-none a d e p q k v) =
       let x = traced (searched t) in
@@ -70,6 +71,7 @@ module _ (t : Task) where
         path-there = λ o. rw same (p ∙ sym (x .path-is));
         top-there = λ o. rw same (q ∙ sym (x .top-is));
         steps-most = omega arith;
+        steps-within = omega (arith, steps-within t);
       }
   from-start most budgets w (ends-limit a s c p e) =
       let x = traced (p .made) in
@@ -82,6 +84,7 @@ module _ (t : Task) where
         path-there = λ o. absurd (o a);
         top-there = λ o. absurd (o a);
         steps-most = omega (arith, p .steps-most);
+        steps-within = omega (arith, p .steps-most, steps-within t);
       }
 
   -- without more accepted pairs than the limit

@@ -41,7 +41,7 @@ each-joined P f [] h = rw (joined-nil f) tt
 each-joined P f (x ∷ xs) h =
     rw (joined-cons f x xs) (each-append P (f x) (joined f xs) (h x (member-head x xs)) (each-joined P f xs (λ y m. h y (member-tail y x xs m))))
 
-count-each : {A : Type 0} (P : A → Type 0) (p q : A → Bool) (xs : List A) → Each P xs → ((x : A) → P x → p x ≡ q x) → count p xs ≡ count q xs
+pub count-each : {A : Type 0} (P : A → Type 0) (p q : A → Bool) (xs : List A) → Each P xs → ((x : A) → P x → p x ≡ q x) → count p xs ≡ count q xs
 count-each P p q [] e h = count-nil p ∙ sym (count-nil q)
 count-each P p q (x ∷ xs) e h = rw (count-cons p x xs, count-cons q x xs, h x (e .0), count-each P p q xs (e .1) h)
 

@@ -23,15 +23,15 @@ use Rattle.rules.specs.Placement.{Placement, edgesOf}
 use Rattle.placements.specs.Claims.{LabelsBelow, AcceptedFile, OfOneKind, Sound, graphsAgree, onPositions, onIds, Renumbered}
 use Rattle.placements.proofs.Labels.{edges-compared, edges-not-compared}
 
-record Alike (s : Settings) (g h : Graph) (to back : ℕ → ℕ) : Type 0 where
-  to-below : (v : ℕ) → v < nodes g → to v < nodes h
-  back-below : (w : ℕ) → w < nodes h → back w < nodes g
-  back-to : (v : ℕ) → v < nodes g → back (to v) ≡ v
-  to-back : (w : ℕ) → w < nodes h → to (back w) ≡ w
-  same-label : (v : ℕ) → v < nodes g → getD (h .labels) (to v) 0 ≡ getD (g .labels) v 0
-  same-edges : (l a b : ℕ) → a < nodes g → b < nodes g → edgesOf s h l (to a) (to b) ≡ edgesOf s g l a b
+pub record Alike (s : Settings) (g h : Graph) (to back : ℕ → ℕ) : Type 0 where
+  pub to-below : (v : ℕ) → v < nodes g → to v < nodes h
+  pub back-below : (w : ℕ) → w < nodes h → back w < nodes g
+  pub back-to : (v : ℕ) → v < nodes g → back (to v) ≡ v
+  pub to-back : (w : ℕ) → w < nodes h → to (back w) ≡ w
+  pub same-label : (v : ℕ) → v < nodes g → getD (h .labels) (to v) 0 ≡ getD (g .labels) v 0
+  pub same-edges : (l a b : ℕ) → a < nodes g → b < nodes g → edgesOf s h l (to a) (to b) ≡ edgesOf s g l a b
 
-alike-back : (s : Settings) (g h : Graph) (to back : ℕ → ℕ) → Alike s g h to back → Alike s h g back to
+pub alike-back : (s : Settings) (g h : Graph) (to back : ℕ → ℕ) → Alike s g h to back → Alike s h g back to
 alike-back s g h to back k =
     record {
       to-below = k .back-below;
@@ -119,16 +119,16 @@ module _ (s : Settings) (plusPlus : Bool) (g : Graph) (file : AcceptedFile g) wh
   renumbered-kind = refl
 
 module _ (s : Settings) (g₀ g₁ : Graph) (files : OfOneKind g₀ g₁) where
-  abbrev h₀ : Graph
+  abbrev pub h₀ : Graph
   h₀ = renumbered (nodeOrder (s .vf2pp) g₀) g₀
 
-  abbrev h₁ : Graph
+  abbrev pub h₁ : Graph
   h₁ = renumbered (nodeOrder (s .vf2pp) g₁) g₁
 
-  alike₀ : Alike s g₀ h₀ (λ v. place v (nodeOrder (s .vf2pp) g₀)) (λ w. getD (nodeOrder (s .vf2pp) g₀) w 0)
+  pub alike₀ : Alike s g₀ h₀ (λ v. place v (nodeOrder (s .vf2pp) g₀)) (λ w. getD (nodeOrder (s .vf2pp) g₀) w 0)
   alike₀ = alike s (s .vf2pp) g₀ (files .accepted₀)
 
-  alike₁ : Alike s g₁ h₁ (λ v. place v (nodeOrder (s .vf2pp) g₁)) (λ w. getD (nodeOrder (s .vf2pp) g₁) w 0)
+  pub alike₁ : Alike s g₁ h₁ (λ v. place v (nodeOrder (s .vf2pp) g₁)) (λ w. getD (nodeOrder (s .vf2pp) g₁) w 0)
   alike₁ = alike s (s .vf2pp) g₁ (files .accepted₁)
 
   alike₀-back : Alike s h₀ g₀ (λ w. getD (nodeOrder (s .vf2pp) g₀) w 0) (λ v. place v (nodeOrder (s .vf2pp) g₀))

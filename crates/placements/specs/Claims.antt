@@ -13,7 +13,7 @@ use Rattle.graph.specs.Within.{Within}
 use Rattle.order.specs.Order.{nodeOrder}
 use Rattle.rules.specs.Task.{Task, taskOf, agree, countsAgree, exchanged, partner}
 use Rattle.rules.specs.Acceptable.{all}
-use Rattle.rules.specs.Search.{Record, started, pairsOf, imageOf, Answer, Found, None, Limit, continue, acceptedRecord}
+use Rattle.rules.specs.Search.{Record, started, pairsOf, imageOf, mapOf, Answer, Found, None, Limit, continue, acceptedRecord}
 use Rattle.rules.specs.Placement.{Placement}
 use Rattle.placements.specs.Listed.{whole, listed, stepsOf, acceptedOf}
 use Rattle.placements.specs.Calls.{Called, calls, unlimited, after, acceptedIn, foundIn}
@@ -101,6 +101,10 @@ module _ (t : Task) where
   abbrev pub Places : (ℕ → ℕ) → Type 0
   Places φ = Placement (t .settings) (t .graph₀) (t .graph₁) φ
 
+  -- the pairs that Found hands out, over positions
+  abbrev pub MapShows : Type 0
+  MapShows = (path : List ℕ) → mapOf t path ≡ map (λ w. (imageIn path w, w)) (from 0 (nodes (t .graph₁)))
+
   -- whatever the limit and the budgets, from an accepted record only accepted ones follow
   pub record AcceptedStays : Type 0 where
     pub at-start : acceptedRecord t started ≡ true
@@ -154,6 +158,7 @@ pub record FromStart (t : Task) (c : Called t) : Type 0 where
   pub path-there : (c .ending ≡ some Limit → ⊥) → c .record′ .path ≡ after (unlimited t) (c .steps) started .path
   pub top-there : (c .ending ≡ some Limit → ⊥) → c .record′ .top ≡ after (unlimited t) (c .steps) started .top
   pub steps-most : c .steps ≤ stepsOf t
+  pub steps-within : c .steps ≤ (nodes (t .graph₀) + 2) * permutations (nodes (t .graph₀)) (nodes (t .graph₁))
 
 -- budgets change neither the maps nor their order nor the ending, nor anything else of what all calls together come to
 abbrev pub BudgetsAlike : Task → Type 0
@@ -199,3 +204,32 @@ pub record Records (t : Task) : Type 0 where
   pub passed-accepted : (s : ℕ) → acceptedRecord t (after (unlimited t) s started) ≡ true
   pub accepted-passed : (r : Record) → acceptedRecord t r ≡ true
       → (s : ℕ) × (s ≤ stepsOf t) × (after (unlimited t) s started .path ≡ r .path) × (after (unlimited t) s started .top ≡ r .top)
+
+-- The same over ids
+
+module _ (s : Settings) (g₀ g₁ : Graph) where
+  -- the image of a graph-1 id in the map that a path shows
+  abbrev pub idImage : List ℕ → ℕ → ℕ
+  idImage path = onIds s g₀ g₁ (imageIn (taskOf s g₀ g₁) path)
+
+  -- the pairs (graph-0 id, graph-1 id) of a map
+  abbrev pub idPairs : List ℕ → List (ℕ × ℕ)
+  idPairs path =
+      map (λ p. (getD (nodeOrder (s .vf2pp) g₀) (p .0) 0, getD (nodeOrder (s .vf2pp) g₁) (p .1) 0)) (mapOf (taskOf s g₀ g₁) path)
+
+  abbrev pub showsIds : (ℕ → ℕ) → List ℕ → Bool
+  showsIds φ path = all (λ v. eqb (idImage path v) (φ v)) (from 0 (nodes g₁))
+
+  pub record ListingOfIds : Type 0 where
+    -- in graph 1's node order, each with its image
+    pub pairs : (path : List ℕ) → idPairs path ≡ map (λ v. (idImage path v, v)) (nodeOrder (s .vf2pp) g₁)
+    pub all-place : Each (λ path. Placement s g₀ g₁ (idImage path)) (listed (taskOf s g₀ g₁))
+    pub each-once : (φ : ℕ → ℕ) → Placement s g₀ g₁ φ → count (showsIds φ) (listed (taskOf s g₀ g₁)) ≡ 1
+
+-- a graph is listed in itself, a chain of listed placements is listed, and under Equal the reverse of one
+pub record SymmetriesListed (s : Settings) : Type 0 where
+  pub identity-listed : (g : Graph) → AcceptedFile g → count (showsIds s g g (λ a. a)) (listed (taskOf s g g)) ≡ 1
+  pub chain-listed : (g₀ g₁ g₂ : Graph) (φ ψ : ℕ → ℕ) → OfOneKind g₀ g₁ → OfOneKind g₁ g₂ → graphsAgree s g₀ g₁ ≡ true → graphsAgree s g₁ g₂ ≡ true
+      → Placement s g₀ g₁ φ → Placement s g₁ g₂ ψ → count (showsIds s g₀ g₂ (λ a. φ (ψ a))) (listed (taskOf s g₀ g₂)) ≡ 1
+  pub reverse-listed : (g₀ g₁ : Graph) (φ : ℕ → ℕ) → s .greater ≡ false → OfOneKind g₀ g₁ → graphsAgree s g₀ g₁ ≡ true
+      → Placement s g₀ g₁ φ → count (showsIds s g₁ g₀ (reverse (nodes g₁) φ)) (listed (taskOf s g₁ g₀)) ≡ 1
