@@ -1,3 +1,4 @@
+pub mod Files
 pub mod Sums
 pub mod Labels
 pub mod Equal

@@ -8,7 +8,8 @@ use lib.Dec.{eqb, ltb}
 use lib.ListN.{length, getD}
 use Rattle.lists.specs.Lists.{from, count, total, place}
 use Rattle.packed.specs.Graph.{Edge, Graph, nodes}
-use Rattle.packed.specs.Settings.{Settings}
+use Rattle.packed.specs.Refusals.{graph, reading}
+use Rattle.packed.specs.Settings.{Settings, settingsOf, badSettings}
 use Rattle.graph.specs.Within.{Within}
 use Rattle.order.specs.Order.{nodeOrder}
 use Rattle.rules.specs.Task.{Task, taskOf, agree, countsAgree, exchanged, partner}
@@ -36,6 +37,15 @@ pub record OfOneKind (g₀ g₁ : Graph) : Type 0 where
 
 abbrev pub Sound : Task → Type 0
 Sound t = OfOneKind (t .graph₀) (t .graph₁)
+
+-- such files are what is read without a refusal, once the kinds don't differ
+abbrev pub FilesEnsure : Type 0
+FilesEnsure =
+    (bytes₀ bytes₁ : List ℕ) (g₀ g₁ : Graph) → reading 0 bytes₀ ≡ graph g₀ → reading 1 bytes₁ ≡ graph g₁ → g₁ .directed ≡ g₀ .directed → OfOneKind g₀ g₁
+
+-- and settings that are not refused have a limit of at most its maximum, if they have one
+abbrev pub SettingsEnsure : Type 0
+SettingsEnsure = (bytes : List ℕ) (limit : ℕ) → badSettings bytes ≡ false → settingsOf bytes .limit ≡ some limit → limit ≤ 4294967294
 
 -- counts agree when the node counts, and likewise the edge counts, are equal or, under Greater, those of graph 0 are larger
 abbrev pub graphsAgree : Settings → Graph → Graph → Bool
