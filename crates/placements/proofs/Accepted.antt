@@ -1,22 +1,22 @@
 -- From an accepted record only accepted ones follow, and a map that is found is a whole accepted path, and so a placement.
-use Prim.Native.Nat.{ℕ, zero, suc, _-_, _≤_, _<_}
-use mathlib.Core.Bool.{Bool, true, false, _&&_}
+use Prim.Native.Nat.{ℕ, suc, _-_}
+use mathlib.Core.Bool.{true, false, _&&_}
 use mathlib.Core.List.{List, [], _∷_}
 use mathlib.Core.Option.{Option, none, some}
-use mathlib.Core.Path.{_≡_, refl, sym, _∙_}
+use mathlib.Core.Path.{_≡_, refl}
 use native.Mathlib.Omega.{arith}
-use lib.Dec.{eqb, leb}
+use lib.Dec.{leb}
 use lib.ListN.{length}
 use borrow.Author.Tests.{le-leb}
-use Rattle.lists.specs.Lists.{from, keep, member}
+use Rattle.lists.specs.Lists.{from, keep}
 use Rattle.lists.proofs.Tests.{case, option-case, never, and-intro, and-left, and-right}
 use Rattle.lists.proofs.Laws.{member-keep, member-from}
 use Rattle.packed.specs.Graph.{nodes}
-use Rattle.rules.specs.Task.{Task, mapped}
-use Rattle.rules.specs.Marks.{Candidate, head, least, nextFrom}
-use Rattle.rules.specs.Search.{Top, Outer, Inner, Unwind, Record, started, pairsOf, candidateAt, innerOr, nextTop, onward, accepts, above, raised, step, Found, run, continue, offered, acceptedPath, topOffered, acceptedRecord}
+use Rattle.rules.specs.Task.{Task}
+use Rattle.rules.specs.Marks.{Candidate, nextFrom}
+use Rattle.rules.specs.Search.{Top, Outer, Inner, Unwind, Record, started, pairsOf, candidateAt, innerOr, onward, accepts, above, raised, step, continue, offered, acceptedPath, topOffered, acceptedRecord}
 use Rattle.placements.specs.Listed.{whole}
-use Rattle.placements.specs.Claims.{Sound, imageIn, Places, AcceptedStays, EveryMapPlaces}
+use Rattle.placements.specs.Claims.{Sound, AcceptedStays, EveryMapPlaces}
 use Rattle.placements.proofs.Candidates.{inList₀, head-member, candidate-node₀, offered-by}
 use Rattle.placements.proofs.Paths.{accepted-nil, accepted-shorter, accepted-longer, depth₀, depth₁}
 use Rattle.placements.proofs.Placed.{path-places}

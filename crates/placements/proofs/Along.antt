@@ -1,17 +1,17 @@
 -- Pairs along a relation of the two graphs' nodes: a node's partner is related to it, related nodes are mapped alike, and they
 -- follow mapped nodes alike where the relation carries the edges over. Said once, and of the other graph by exchanging the pairs.
-use Prim.Native.Nat.{ℕ, zero, suc, _≤_, _<_}
-use mathlib.Core.Bool.{Bool, true, false, _&&_, _||_}
-use mathlib.Core.List.{List, [], _∷_, map}
-use mathlib.Core.Option.{Option, none, some}
+use Prim.Native.Nat.{ℕ, _<_}
+use mathlib.Core.Bool.{Bool, true, false, _||_}
+use mathlib.Core.List.{List, [], _∷_}
+use mathlib.Core.Option.{some}
 use mathlib.Core.Path.{_≡_, refl, sym, _∙_, ap}
 use native.Mathlib.Omega.{arith}
 use lib.Dec.{eqb, ltb}
-use borrow.Author.Tests.{eqb-true, eq-eqb, ltb-true, lt-ltb}
-use Rattle.lists.specs.Lists.{any, member}
-use Rattle.lists.proofs.Tests.{case, never, eqb-swap}
+use borrow.Author.Tests.{eqb-true, ltb-true, lt-ltb}
+use Rattle.lists.specs.Lists.{member}
+use Rattle.lists.proofs.Tests.{case, never}
 use Rattle.lists.proofs.Laws.{any-nil, any-cons, member-nil, member-head, member-tail, member-cases}
-use Rattle.rules.specs.Task.{Pairs, exchange, exchanged, mapped, partner}
+use Rattle.rules.specs.Task.{Pairs, exchanged, mapped, partner}
 use Rattle.rules.specs.Marks.{follows}
 use Rattle.rules.proofs.Laws.{partner-nil, partner-own, partner-other}
 

@@ -1,12 +1,12 @@
 -- The steps of the search are within the number of document 01: below a path of length l there are at most N0 - l nodes to try.
-use Prim.Native.Nat.{ℕ, zero, suc, _+_, _-_, _*_, _≤_, _<_}
+use Prim.Native.Nat.{ℕ, zero, suc, _+_, _-_, _*_, _≤_}
 use native.Mathlib.Nat.{mul-le-mul-right}
-use mathlib.Core.Bool.{Bool, true, false, cond}
+use mathlib.Core.Bool.{true}
 use mathlib.Core.List.{List, [], _∷_}
-use mathlib.Core.Path.{_≡_, refl, sym, _∙_}
+use mathlib.Core.Path.{_≡_, refl}
 use native.Mathlib.Omega.{arith}
 use lib.ListN.{length}
-use Rattle.lists.specs.Lists.{from, total, member}
+use Rattle.lists.specs.Lists.{total, member}
 use Rattle.lists.proofs.Tests.{case}
 use Rattle.lists.proofs.Laws.{total-nil, total-cons, member-head, member-tail}
 use Rattle.packed.specs.Graph.{nodes}

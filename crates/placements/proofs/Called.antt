@@ -1,19 +1,18 @@
 -- Calls of Continue, one after the other: each goes on from the point at which the last one stopped, until None or Limit.
-use Prim.Native.Nat.{ℕ, zero, suc, _+_, _≤_, _<_, min}
-use mathlib.Core.Bool.{Bool, true, false, cond}
+use Prim.Native.Nat.{ℕ, _+_, _≤_, min}
+use mathlib.Core.Bool.{true, false}
 use mathlib.Core.List.{List, [], _∷_, _++_, append-nil, append-assoc}
-use mathlib.Core.Option.{Option, none, some}
+use mathlib.Core.Option.{none, some}
 use mathlib.Core.Path.{_≡_, refl, sym, _∙_, ap}
 use native.Mathlib.Omega.{arith}
-use lib.Dec.{ltb}
 use lib.ListN.{length}
 use borrow.Author.Tests.{le-ltb}
-use Rattle.lists.proofs.Tests.{case, option-case}
+use Rattle.lists.proofs.Tests.{option-case}
 use Rattle.rules.specs.Task.{Task, countsAgree}
-use Rattle.rules.specs.Search.{Top, Outer, Inner, Unwind, Record, started, above, Answer, Found, None, Limit, Paused, Went, run, continue}
+use Rattle.rules.specs.Search.{Unwind, Record, started, above, Found, None, Limit, Paused, continue}
 use Rattle.placements.specs.Listed.{listed, stepsOf, acceptedOf}
 use Rattle.placements.specs.Calls.{Called, after-call, last-call, calls}
-use Rattle.placements.specs.Claims.{Each, AtLeastOne, LimitMost}
+use Rattle.placements.specs.Claims.{AtLeastOne, LimitMost}
 use Rattle.placements.proofs.Searched.{nothing, searched}
 use Rattle.placements.proofs.Continued.{Point, Exceeded, Ran, ran-none, ran-limit, ran-found, ran-paused, run-from}
 

@@ -1,19 +1,19 @@
 -- The candidate: its nodes are the least of its list in the two graphs; without one a graph has no unmapped node left.
-use Prim.Native.Nat.{ℕ, zero, suc, _+_, _-_, _≤_, _<_}
+use Prim.Native.Nat.{ℕ, _-_, _<_}
 use mathlib.Core.Bool.{Bool, true, false, _&&_, not}
 use mathlib.Core.List.{List, [], _∷_}
 use mathlib.Core.Option.{Option, none, some}
-use mathlib.Core.Path.{_≡_, refl, sym, _∙_, ap}
+use mathlib.Core.Path.{_≡_, refl, sym, _∙_}
 use native.Mathlib.Omega.{arith}
 use lib.Dec.{ltb}
 use borrow.Author.Tests.{ltb-true, lt-ltb}
 use Rattle.lists.specs.Lists.{from, keep, member}
-use Rattle.lists.proofs.Tests.{case, option-case, never, and-left, and-right, not-true, false-by}
+use Rattle.lists.proofs.Tests.{option-case, never, and-left, and-right, not-true, false-by}
 use Rattle.lists.proofs.Laws.{member-nil, member-head, member-keep, member-kept, member-from, from-member}
 use Rattle.packed.specs.Graph.{Graph, nodes}
 use Rattle.rules.specs.Task.{Task, Pairs, exchanged, mapped}
 use Rattle.rules.specs.Marks.{OpenList, Out, In, Other, inList, head, least, Candidate, both, orElse, leastOf, candidate}
-use Rattle.rules.specs.Search.{pairsOf, candidateAt, nodeOf, inItsList, offered}
+use Rattle.rules.specs.Search.{pairsOf, candidateAt, offered}
 
 pub head-member : (l : List ℕ) (x : ℕ) → head l ≡ some x → member x l ≡ true
 head-member [] x e = absurd (let z : _≡_ {A = ℕ} 0 1 = cc in omega arith)

@@ -1,24 +1,20 @@
 -- Calls of Continue, whatever their budgets and the limit. Between two steps the record stands at a point of the one search: what
 -- has been made leads there from Start, what is left leads on to the end, and together they are the listing.
 use Prim.Native.Nat.{ℕ, zero, suc, _+_, _≤_, _<_, min}
-use mathlib.Core.Bool.{Bool, true, false, cond, _&&_, not}
+use mathlib.Core.Bool.{true, false}
 use mathlib.Core.List.{List, [], _∷_, _++_, append-nil, append-assoc}
-use mathlib.Core.Option.{Option, none, some}
+use mathlib.Core.Option.{none, some}
 use mathlib.Core.Path.{_≡_, refl, sym, _∙_, ap}
 use native.Mathlib.Omega.{arith}
 use lib.Dec.{ltb}
-use lib.ListN.{length}
-use borrow.Author.Tests.{ltb-true, ltb-false, le-ltb}
+use borrow.Author.Tests.{ltb-true, ltb-false}
 use Rattle.lists.proofs.Tests.{case, option-case, never}
-use Rattle.packed.specs.Graph.{nodes}
 use Rattle.rules.specs.Task.{Task, countsAgree}
-use Rattle.rules.specs.Marks.{Candidate}
-use Rattle.rules.specs.Search.{Top, Outer, Inner, Unwind, Record, started, candidateAt, onward, accepts, above, raised, step, Answer, Found, None, Limit, Paused, isEnd, stops, Went, run, continue}
-use Rattle.placements.specs.Listed.{whole, listed, stepsOf, acceptedOf}
-use Rattle.placements.specs.Calls.{Called, after-call, last-call, calls}
-use Rattle.placements.specs.Claims.{Each, LimitMost}
+use Rattle.rules.specs.Search.{Top, Outer, Inner, Unwind, Record, above, raised, step, Found, None, Limit, Paused, isEnd, stops, Went, run}
+use Rattle.placements.specs.Listed.{listed, stepsOf, acceptedOf}
+use Rattle.placements.specs.Claims.{LimitMost}
 use Rattle.placements.proofs.Steps.{step-candidate, step-none, step-taken, step-over, step-passed, step-left, run-stops, run-pauses, run-finds, run-goes-on}
-use Rattle.placements.proofs.Searched.{Search, nothing, opened, closed, found, taken, passed, left, retold, then, searched}
+use Rattle.placements.proofs.Searched.{Search, nothing, opened, closed, found, taken, passed, left, retold, then}
 
 raised-counts : (c : ℕ) → min (suc (min c 4294967295)) 4294967295 ≡ min (suc c) 4294967295
 raised-counts c = omega arith

@@ -1,7 +1,7 @@
 -- Where the node counts are equal and the edge counts too, an injection that never lowers the number of edges between two nodes
 -- keeps it. Directed, each edge is counted once over all pairs of nodes; undirected, once more where it is no self-loop.
 use Prim.Native.Nat.{ℕ, _+_, _*_, _≤_, _<_}
-use mathlib.Core.Bool.{Bool, true, false, cond, _&&_, not}
+use mathlib.Core.Bool.{Bool, true, false, cond}
 use mathlib.Core.List.{List, [], _∷_}
 use mathlib.Core.Option.{Option, none, some}
 use mathlib.Core.Path.{_≡_, refl, sym, _∙_}
@@ -11,8 +11,8 @@ use lib.ListN.{length}
 use Rattle.lists.specs.Lists.{count}
 use Rattle.lists.proofs.Tests.{case, eqb-swap}
 use Rattle.lists.proofs.Laws.{count-nil, count-cons}
-use Rattle.packed.specs.Graph.{Edge, Graph}
-use Rattle.graph.specs.Walk.{joins, between, leads}
+use Rattle.packed.specs.Graph.{Edge}
+use Rattle.graph.specs.Walk.{joins, leads}
 use Rattle.graph.specs.Within.{Within}
 use Rattle.graph.proofs.Walk.{Below, leadsTo, joins-leads, leads-below}
 use Rattle.rules.proofs.Laws.{isSome}

@@ -1,9 +1,9 @@
 -- What files and settings that are not refused ensure: edges name nodes, labels have 6 bits, a limit is at most its maximum.
-use Prim.Native.Nat.{ℕ, zero, suc, _+_, _≤_, _<_}
-use mathlib.Core.Bool.{Bool, true, false, cond, _&&_, _||_, not}
-use mathlib.Core.List.{List, [], _∷_, map}
-use mathlib.Core.Option.{Option, none, some}
-use mathlib.Core.Path.{_≡_, refl, sym, _∙_}
+use Prim.Native.Nat.{ℕ, zero, suc, _+_, _<_}
+use mathlib.Core.Bool.{Bool, true, false, _||_, not}
+use mathlib.Core.List.{List, map}
+use mathlib.Core.Option.{none, some}
+use mathlib.Core.Path.{_≡_, refl}
 use native.Mathlib.Omega.{arith}
 use lib.Dec.{eqb, ltb}
 use lib.ListN.{length}
@@ -12,13 +12,13 @@ use Rattle.lists.specs.Lists.{from}
 use Rattle.lists.proofs.Tests.{case}
 use Rattle.lists.proofs.Laws.{from-none, from-suc}
 use Rattle.bits.proofs.Laws.{field-below}
-use Rattle.packed.specs.Graph.{Edge, Graph, nodes}
+use Rattle.packed.specs.Graph.{Edge, Graph}
 use Rattle.packed.specs.Packed.{nodeCount, edgeCount, edgeOffset, edgeAt, graphOf}
 use Rattle.packed.specs.Refusals.{graph, reading}
-use Rattle.packed.specs.Settings.{ordering, limited, spare, limitField, settingsOf, badSettings}
+use Rattle.packed.specs.Settings.{ordering, limited, spare, limitField, settingsOf}
 use Rattle.packed.proofs.Accepted.{accepted, graph-of}
 use Rattle.graph.proofs.Files.{graph-within}
-use Rattle.placements.specs.Claims.{LabelsBelow, AcceptedFile, OfOneKind, FilesEnsure, SettingsEnsure}
+use Rattle.placements.specs.Claims.{LabelsBelow, AcceptedFile, FilesEnsure, SettingsEnsure}
 
 labels-map : (n : ℕ) (f : ℕ → Edge) (k i : ℕ) → ((j : ℕ) → f j .label < n) → LabelsBelow n (map f (from i k))
 labels-map n f zero i h = rw (from-none i) tt

@@ -1,15 +1,15 @@
 -- The listing over ids: a path shows a placement of ids exactly where it shows the placement of positions that belongs to it, and so
 -- every placement of ids is listed once; the identity, chains and reverses are.
-use Prim.Native.Nat.{ℕ, zero, suc, _+_, _≤_, _<_}
+use Prim.Native.Nat.{ℕ, zero, suc, _<_}
 use native.Mathlib.Nat.{le-refl}
-use mathlib.Core.Bool.{Bool, true, false, _&&_}
+use mathlib.Core.Bool.{Bool, true, false}
 use mathlib.Core.List.{List, [], _∷_, map}
 use mathlib.Core.Path.{_≡_, refl, sym, _∙_, ap}
 use native.Mathlib.Omega.{arith}
-use lib.Dec.{eqb, leb}
+use lib.Dec.{eqb}
 use lib.ListN.{length, getD}
 use borrow.Author.Tests.{eqb-true, eq-eqb, le-leb}
-use Rattle.lists.specs.Lists.{from, count, place}
+use Rattle.lists.specs.Lists.{from, place}
 use Rattle.lists.proofs.Tests.{never, and-intro, and-left, and-right, by-iff}
 use Rattle.lists.proofs.Laws.{from-none, from-suc, map-from-same}
 use Rattle.packed.specs.Graph.{Graph, nodes}
@@ -17,14 +17,14 @@ use Rattle.packed.specs.Settings.{Settings}
 use Rattle.order.specs.Order.{nodeOrder}
 use Rattle.order.proofs.Once.{order-holds-each-once}
 use Rattle.order.proofs.Renumbered.{order-keeps-nodes}
-use Rattle.rules.specs.Task.{Task, taskOf, agree, countsAgree}
+use Rattle.rules.specs.Task.{Task, taskOf, agree}
 use Rattle.rules.specs.Placement.{Placement}
 use Rattle.rules.specs.Search.{mapOf}
 use Rattle.placements.specs.Listed.{whole, listed}
-use Rattle.placements.specs.Claims.{AcceptedFile, OfOneKind, graphsAgree, reverse, Sound, onPositions, onIds, Renumbered, imageIn, Places, MapShows, Each, shows, idImage, idPairs, showsIds, ListingOfIds, SymmetriesListed}
+use Rattle.placements.specs.Claims.{OfOneKind, graphsAgree, reverse, onPositions, imageIn, Places, MapShows, shows, idImage, idPairs, showsIds, ListingOfIds, SymmetriesListed}
 use Rattle.placements.proofs.Tests.{all-intro, all-elim}
 use Rattle.placements.proofs.Symmetries.{identity, chained, counts-chained, reversed}
-use Rattle.placements.proofs.Renumbered.{Alike, h₀, h₁, alike₀, alike₁, renumbered-placements}
+use Rattle.placements.proofs.Renumbered.{Alike, alike₀, alike₁, renumbered-placements}
 use Rattle.placements.proofs.Once.{count-each, listed-once}
 use Rattle.placements.proofs.Listing.{all-placed, each-map}
 

@@ -1,21 +1,20 @@
 -- What a placement keeps of the edges between two nodes, labels apart: never fewer; as many if induced, and under Equal. The
 -- same holds of the graphs turned round.
 use Prim.Native.Nat.{ℕ, _≤_, _<_}
-use mathlib.Core.Bool.{Bool, true, false, _&&_}
-use mathlib.Core.Path.{_≡_, refl, sym, _∙_}
+use mathlib.Core.Bool.{true, false, _&&_}
+use mathlib.Core.Path.{_≡_, sym, _∙_}
 use lib.Dec.{eqb, ltb}
-use lib.ListN.{length, length-map}
+use lib.ListN.{length}
 use borrow.Author.Tests.{eqb-true, ltb-true, ltb-false}
 use Rattle.lists.proofs.Tests.{case, and-left, and-right}
 use Rattle.packed.specs.Graph.{Graph, nodes}
 use Rattle.packed.specs.Settings.{Settings}
-use Rattle.graph.specs.Walk.{between, turn, turned}
+use Rattle.graph.specs.Walk.{between, turned}
 use Rattle.graph.specs.Within.{Within}
 use Rattle.graph.proofs.Walk.{within-turned, between-turned}
 use Rattle.order.specs.Claims.{labelledBetween}
-use Rattle.rules.specs.Task.{agree}
 use Rattle.rules.specs.Placement.{Placement, edgesOf}
-use Rattle.placements.specs.Claims.{AcceptedFile, OfOneKind, graphsAgree}
+use Rattle.placements.specs.Claims.{OfOneKind, graphsAgree}
 use Rattle.placements.proofs.Sums.{sum, sum-le, sum-same, sum-tight, Into}
 use Rattle.placements.proofs.Labels.{edges-compared, edges-not-compared, labels-sum, labelled-turned, labelled-none}
 use Rattle.placements.proofs.Equal.{counts-kept}

@@ -1,16 +1,15 @@
 -- The edges between two nodes, by label: the labels' numbers add up to the number of all; turned round, the edges from a to b
 -- are those from b to a; undirected, they are the same.
-use Prim.Native.Nat.{ℕ, zero, suc, _+_, _≤_, _<_}
-use mathlib.Core.Bool.{Bool, true, false, cond, _&&_, _||_, not, and-true, and-comm}
+use Prim.Native.Nat.{ℕ, _+_, _≤_}
+use mathlib.Core.Bool.{Bool, true, false, cond, _&&_, _||_, and-true, and-comm}
 use mathlib.Core.List.{List, [], _∷_, map}
 use mathlib.Core.Path.{_≡_, refl, sym, _∙_}
 use native.Mathlib.Omega.{arith}
 use lib.Dec.{eqb}
-use lib.ListN.{length}
 use borrow.Author.Tests.{ne-eqb}
 use Rattle.lists.specs.Lists.{count}
 use Rattle.lists.proofs.Tests.{case, eqb-swap}
-use Rattle.lists.proofs.Laws.{count-nil, count-cons, count-same, count-map, count-none}
+use Rattle.lists.proofs.Laws.{count-nil, count-cons, count-same, count-map}
 use Rattle.packed.specs.Graph.{Edge, Graph}
 use Rattle.packed.specs.Settings.{Settings}
 use Rattle.graph.specs.Walk.{joins, between, turn, turned}

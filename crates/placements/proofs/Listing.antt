@@ -1,18 +1,17 @@
 -- The listing: without a limit it is all placements, each once, whatever the budgets; with a limit it is cut off at the pair that
 -- exceeds it.
-use Prim.Native.Nat.{ℕ, zero, suc, _+_, _-_, _≤_, _<_, min}
-use mathlib.Core.Bool.{Bool, true, false, cond}
-use mathlib.Core.List.{List, [], _∷_, _++_, append-nil}
+use Prim.Native.Nat.{ℕ, suc, _+_, _-_, _≤_, _<_, min}
+use mathlib.Core.Bool.{true, false, cond}
+use mathlib.Core.List.{List, [], _∷_, append-nil}
 use mathlib.Core.Option.{Option, none, some}
 use mathlib.Core.Path.{_≡_, refl, sym, _∙_, ap}
 use native.Mathlib.Omega.{arith}
 use lib.Dec.{ltb}
 use lib.ListN.{length}
 use borrow.Author.Tests.{ltb-true, ltb-false, lt-ltb, le-ltb}
-use Rattle.lists.proofs.Tests.{case, option-case, never}
-use Rattle.packed.specs.Graph.{nodes}
+use Rattle.lists.proofs.Tests.{case}
 use Rattle.rules.specs.Task.{Task, countsAgree}
-use Rattle.rules.specs.Search.{Top, Outer, Inner, Unwind, Record, started, above, Answer, Found, None, Limit, Paused, Went, continue}
+use Rattle.rules.specs.Search.{Top, Outer, Inner, Record, started, above, Answer, None, Limit}
 use Rattle.placements.specs.Listed.{whole, listed, stepsOf, acceptedOf}
 use Rattle.placements.specs.Calls.{Called, calls, unlimited, after, acceptedIn, foundIn}
 use Rattle.placements.specs.Claims.{Sound, Places, imageIn, Each, AtLeastOne, LimitMost, NoMap, FromStart, BudgetsAlike, Listing, Limited}
@@ -23,7 +22,7 @@ use Rattle.placements.proofs.Bound.{steps-within}
 use Rattle.placements.proofs.Once.{Map, listed-maps, listed-once}
 use Rattle.placements.proofs.Unlimited.{search-unlimited}
 use Rattle.placements.proofs.Trace.{Comes, comes, accepted-more}
-use Rattle.placements.proofs.Continued.{Point, Exceeded}
+use Rattle.placements.proofs.Continued.{Exceeded}
 use Rattle.placements.proofs.Called.{Ends, ends-open, ends-none, ends-limit, calls-end}
 
 pub no-map : (t : Task) → countsAgree t ≡ false → NoMap t

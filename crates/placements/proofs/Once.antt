@@ -1,23 +1,22 @@
 -- The listing holds whole accepted paths only, and each placement once: at a path that lies along the placement exactly one node
 -- that is tried lies along it too, it is acceptable, and no other path leads there.
-use Prim.Native.Nat.{ℕ, zero, suc, _+_, _-_, _≤_, _<_}
+use Prim.Native.Nat.{ℕ, zero, suc, _+_, _≤_, _<_}
 use mathlib.Core.Bool.{Bool, true, false, cond, _&&_, not}
 use mathlib.Core.List.{List, [], _∷_, _++_, nil≢cons}
-use mathlib.Core.Option.{Option, none, some}
+use mathlib.Core.Option.{some}
 use mathlib.Core.Path.{_≡_, refl, sym, _∙_, ap}
 use native.Mathlib.Omega.{arith}
 use lib.Dec.{eqb}
 use lib.ListN.{length}
 use borrow.Author.Tests.{eqb-true, eqb-false, eq-eqb}
-use Rattle.lists.specs.Lists.{from, count, keep, total, member}
-use Rattle.lists.proofs.Tests.{case, option-case, never, and-intro, and-left, and-right, not-true, false-by, by-iff}
-use Rattle.lists.proofs.Laws.{from-length, count-nil, count-cons, count-append, keep-nil, keep-true, keep-false, total-nil, total-cons, member-head, member-tail, member-from}
+use Rattle.lists.specs.Lists.{from, count, keep, member}
+use Rattle.lists.proofs.Tests.{case, option-case, never, and-intro, and-left, and-right, false-by, by-iff}
+use Rattle.lists.proofs.Laws.{from-length, count-nil, count-cons, count-append, keep-nil, keep-true, keep-false, member-head, member-tail, member-from}
 use Rattle.lists.proofs.Distinct.{distinct-below, distinct-from, distinct-among}
-use Rattle.packed.specs.Graph.{Graph, nodes}
-use Rattle.rules.specs.Task.{Task, countsAgree, Pairs, exchanged, mapped, partner}
-use Rattle.rules.specs.Marks.{Candidate, Other, head}
+use Rattle.packed.specs.Graph.{nodes}
+use Rattle.rules.specs.Task.{Task, countsAgree, exchanged, mapped, partner}
+use Rattle.rules.specs.Marks.{Candidate}
 use Rattle.rules.specs.Search.{pairsOf, candidateAt, nodeOf, accepts, offered, acceptedPath}
-use Rattle.rules.specs.Placement.{Placement}
 use Rattle.rules.proofs.Laws.{partner-own, partner-other}
 use Rattle.placements.specs.Listed.{joined, tried, whole, itself, orItself, mapsFrom, listed}
 use Rattle.placements.specs.Claims.{Sound, imageIn, Places, Each, shows}

@@ -1,29 +1,25 @@
 -- Every pair of a placement passes the tests of its turn: along the placement no test finds less in graph 0 than in graph 1, and
 -- under Equal it finds as much.
-use Prim.Native.Nat.{ℕ, zero, suc, _≤_, _<_}
+use Prim.Native.Nat.{ℕ, _≤_, _<_}
 use native.Mathlib.Nat.{le-of-eq}
-use mathlib.Core.Bool.{Bool, true, false, cond, _&&_, not}
-use mathlib.Core.List.{List, [], _∷_, map}
-use mathlib.Core.Option.{Option, none, some}
-use mathlib.Core.Path.{_≡_, refl, sym, _∙_, ap}
+use mathlib.Core.Bool.{Bool, true, false, cond, not}
+use mathlib.Core.List.{List, _∷_}
+use mathlib.Core.Option.{some}
+use mathlib.Core.Path.{_≡_, refl, sym, _∙_}
 use native.Mathlib.Omega.{arith}
-use lib.Dec.{eqb, leb}
-use lib.ListN.{length, getD}
+use lib.ListN.{getD}
 use borrow.Author.Tests.{eq-eqb, le-leb}
 use Rattle.lists.specs.Lists.{from, count, member}
 use Rattle.lists.proofs.Tests.{case, never, and-intro, and-left, and-right, not-true, false-by, by-iff}
 use Rattle.lists.proofs.Laws.{count-all}
 use Rattle.packed.specs.Graph.{Graph, nodes}
-use Rattle.packed.specs.Settings.{Settings}
 use Rattle.graph.specs.Walk.{between, walk, turned}
-use Rattle.graph.specs.Within.{Within}
 use Rattle.graph.proofs.Walk.{walk-count}
-use Rattle.order.specs.Claims.{labelledBetween}
 use Rattle.rules.specs.Task.{Task, agree, countsAgree, Pairs, exchanged, mapped, partner}
 use Rattle.rules.specs.Marks.{follows, firstMark, secondMark, OpenList, Out, In, Other, inList}
-use Rattle.rules.specs.Acceptable.{implies, covers, isNew, matches, linked, labelled, alike, ahead, sameLabel, eachWay, feasible, markedNodes, acceptable}
+use Rattle.rules.specs.Acceptable.{implies, isNew, linked, labelled, ahead, sameLabel, eachWay, feasible, acceptable}
 use Rattle.rules.specs.Placement.{Placement}
-use Rattle.placements.specs.Claims.{OfOneKind, Sound}
+use Rattle.placements.specs.Claims.{Sound}
 use Rattle.placements.proofs.Sums.{sum, sum-same, Into, Apart, sum-into, sum-onto, count-sum}
 use Rattle.placements.proofs.Kept.{Keeps, keeps, keeps-turned, equal-nodes}
 use Rattle.placements.proofs.Tests.{covers-intro, matches-intro}

@@ -1,23 +1,21 @@
 -- Accepted paths: their nodes are distinct in either graph, so that few are left to try, and none on a path that is whole.
-use Prim.Native.Nat.{ℕ, zero, suc, _+_, _-_, _≤_, _<_}
-use mathlib.Core.Bool.{Bool, true, false, _&&_, _||_, not}
-use mathlib.Core.List.{List, [], _∷_, _++_, map}
-use mathlib.Core.Option.{Option, none, some}
+use Prim.Native.Nat.{ℕ, suc, _+_, _≤_}
+use mathlib.Core.Bool.{true, false, _&&_}
+use mathlib.Core.List.{List, [], _∷_, _++_}
+use mathlib.Core.Option.{none}
 use mathlib.Core.Path.{_≡_, refl, sym, _∙_, ap}
 use native.Mathlib.Omega.{arith}
-use lib.Dec.{eqb}
 use lib.ListN.{length, length-map, length-append}
 use borrow.Author.Tests.{eq-eqb}
-use Rattle.lists.specs.Lists.{Distinct, from, keep, member}
-use Rattle.lists.proofs.Tests.{case, option-case, never, and-intro, and-left, and-right, not-true, false-by}
-use Rattle.lists.proofs.Laws.{from-none, from-suc, keep-nil, keep-false, keep-from-none, member-nil, member-head, member-tail, member-append, member-keep}
+use Rattle.lists.specs.Lists.{Distinct, from, member}
+use Rattle.lists.proofs.Tests.{option-case, never, and-intro, and-left, and-right}
+use Rattle.lists.proofs.Laws.{keep-from-none, member-head, member-tail, member-append, member-keep}
 use Rattle.lists.proofs.Distinct.{distinct-length, distinct-all, distinct-from, distinct-keep}
-use Rattle.packed.specs.Graph.{Graph, nodes}
-use Rattle.rules.specs.Task.{Task, Pairs, exchange, exchanged, mapped}
-use Rattle.rules.specs.Marks.{Candidate, inList}
+use Rattle.packed.specs.Graph.{nodes}
+use Rattle.rules.specs.Task.{Task, exchange, exchanged, mapped}
 use Rattle.rules.specs.Search.{pairsOf, candidateAt, nodeOf, accepts, offered, acceptedPath}
 use Rattle.placements.specs.Listed.{tried, whole}
-use Rattle.placements.proofs.Candidates.{inList₀, inList₁, list-unmapped, candidate-node₁, offered-cases, offered-never}
+use Rattle.placements.proofs.Candidates.{list-unmapped, candidate-node₁, offered-cases, offered-never}
 
 distinct-append : (n : ℕ) (us vs : List ℕ) → Distinct n us → Distinct n vs → ((x : ℕ) → member x us ≡ true → member x vs ≡ false) → Distinct n (us ++ vs)
 distinct-append n [] vs d e h = e

@@ -1,9 +1,9 @@
 -- A whole accepted path is a placement. What an acceptable pair adds to the pairs before it, said of one graph's pairs as it sees
 -- them, holds of the other's by exchanging them, and of incoming edges by turning them round.
-use Prim.Native.Nat.{ℕ, zero, suc, _+_, _≤_, _<_}
+use Prim.Native.Nat.{ℕ, _≤_, _<_}
 use native.Mathlib.Nat.{le-antisymm}
 use mathlib.Core.Bool.{Bool, true, false, _&&_}
-use mathlib.Core.List.{List, [], _∷_, map}
+use mathlib.Core.List.{List, [], _∷_}
 use mathlib.Core.Option.{Option, none, some}
 use mathlib.Core.Path.{_≡_, refl, sym, _∙_, ap}
 use native.Mathlib.Omega.{arith}
@@ -21,14 +21,14 @@ use Rattle.graph.proofs.Walk.{within-turned}
 use Rattle.rules.specs.Task.{Task, Pairs, exchanged, mapped, partner}
 use Rattle.rules.specs.Acceptable.{implies, covers, matches, linked, labelled, ahead, sameLabel, eachWay, feasible, markedNodes, acceptable}
 use Rattle.rules.specs.Marks.{firstMark, secondMark}
-use Rattle.rules.specs.Placement.{Placement, edgesOf}
-use Rattle.rules.specs.Search.{pairsOf, candidateAt, nodeOf, imageOf, accepts, acceptedPath}
-use Rattle.rules.proofs.Laws.{isSome, partner-nil, partner-own, partner-other, partner-member}
+use Rattle.rules.specs.Placement.{edgesOf}
+use Rattle.rules.specs.Search.{pairsOf, candidateAt, nodeOf, accepts, acceptedPath}
+use Rattle.rules.proofs.Laws.{partner-nil, partner-own, partner-other, partner-member}
 use Rattle.placements.specs.Listed.{whole}
-use Rattle.placements.specs.Claims.{AcceptedFile, OfOneKind, Sound, imageIn, Places}
+use Rattle.placements.specs.Claims.{Sound, imageIn, Places}
 use Rattle.placements.proofs.Labels.{edges-turned, edges-undirected, edges-compared, edges-not-compared}
 use Rattle.placements.proofs.Tests.{covers-elim, matches-elim}
-use Rattle.placements.proofs.Along.{exchanged-twice, Flipped, Along, along-exchanged, partner-along}
+use Rattle.placements.proofs.Along.{exchanged-twice, Along, partner-along}
 use Rattle.placements.proofs.Paths.{pairs-nil, pairs-cons, long₁, accepted-shorter, accepted-accepts, distinct₀, distinct₁}
 
 implies-elim : (a b : Bool) → implies a b ≡ true → a ≡ true → b ≡ true

@@ -1,30 +1,28 @@
 -- The search passes every accepted record. From Outer on an accepted path it comes to each node that is tried there, and from a node
 -- whose pair is acceptable to Outer on the longer path; the steps before, there and after add up to those of the whole search.
-use Prim.Native.Nat.{ℕ, zero, suc, _+_, _-_, _≤_, _<_}
-use mathlib.Core.Bool.{Bool, true, false, cond, _&&_}
+use Prim.Native.Nat.{ℕ, zero, suc, _+_, _-_, _≤_}
+use mathlib.Core.Bool.{true}
 use mathlib.Core.List.{List, [], _∷_, _++_}
-use mathlib.Core.Option.{Option, none, some}
-use mathlib.Core.Path.{_≡_, refl, sym, _∙_, ap}
+use mathlib.Core.Option.{none, some}
+use mathlib.Core.Path.{_≡_, refl, sym, _∙_}
 use native.Mathlib.Omega.{arith}
-use lib.Dec.{eqb}
 use lib.ListN.{length}
-use borrow.Author.Tests.{eqb-true, eqb-false}
 use Rattle.lists.specs.Lists.{from, keep, total, member}
-use Rattle.lists.proofs.Tests.{case, never, and-intro, and-left, and-right}
-use Rattle.lists.proofs.Laws.{total-cons, member-nil, member-cases, member-head, member-tail, member-keep, member-kept, from-member}
+use Rattle.lists.proofs.Tests.{case, never}
+use Rattle.lists.proofs.Laws.{total-cons, member-nil, member-cases, member-head, member-tail, member-kept, from-member}
 use Rattle.packed.specs.Graph.{nodes}
 use Rattle.rules.specs.Task.{Task}
 use Rattle.rules.specs.Marks.{Candidate, head}
-use Rattle.rules.specs.Search.{Top, Outer, Inner, Unwind, Record, started, pairsOf, candidateAt, innerOr, onward, accepts, step, offered, acceptedPath, topOffered, acceptedRecord}
+use Rattle.rules.specs.Search.{Top, Outer, Inner, Unwind, Record, started, pairsOf, candidateAt, innerOr, onward, accepts, offered, acceptedPath, topOffered}
 use Rattle.placements.specs.Listed.{tried, stepsFrom, stepsOf}
 use Rattle.placements.specs.Calls.{unlimited, after}
 use Rattle.placements.specs.Claims.{Records}
 use Rattle.placements.proofs.Candidates.{inList₀, candidate-least, offered-cases}
 use Rattle.placements.proofs.Paths.{accepted-nil, accepted-shorter, accepted-offered, accepted-accepts, accepted-longer, tried-offered, depth₁, no-candidate}
 use Rattle.placements.proofs.Accepted.{Good, good-accepted, accepted-good, steps-keep-good, start-good}
-use Rattle.placements.proofs.Searched.{Search, nothing, opened, closed, found, taken, passed, left, then, retold, first-kept, tried-list, onward-next, stepsAt, steps-more, below}
+use Rattle.placements.proofs.Searched.{Search, nothing, opened, taken, passed, left, then, first-kept, tried-list, onward-next, stepsAt, steps-more, below}
 use Rattle.placements.proofs.Unlimited.{accepts-same, offered-same, search-unlimited}
-use Rattle.placements.proofs.Trace.{Comes, comes, stepped, after-more}
+use Rattle.placements.proofs.Trace.{comes, stepped}
 
 module _ (t : Task) where
   -- the search comes there from Start in so many steps

@@ -1,7 +1,7 @@
 -- Placements over ids and over positions are the same placements. Two graphs are alike where each node of the one has a node of
 -- the other, with its label and its edges; a graph and the renumbered one are.
-use Prim.Native.Nat.{ℕ, _≤_, _<_}
-use mathlib.Core.Bool.{Bool, true, false, _&&_}
+use Prim.Native.Nat.{ℕ, _<_}
+use mathlib.Core.Bool.{Bool}
 use mathlib.Core.List.{List, [], _∷_, map}
 use mathlib.Core.Path.{_≡_, refl, sym, _∙_, ap}
 use native.Mathlib.Omega.{arith}
@@ -13,14 +13,13 @@ use Rattle.lists.proofs.Distinct.{distinct-below}
 use Rattle.lists.proofs.Place.{place-at, at-place}
 use Rattle.packed.specs.Graph.{Edge, Graph, nodes}
 use Rattle.packed.specs.Settings.{Settings}
-use Rattle.graph.specs.Within.{Within}
 use Rattle.order.specs.Order.{nodeOrder}
 use Rattle.order.specs.Renumber.{renumberEdge, renumbered}
 use Rattle.order.proofs.Once.{order-distinct, order-member, order-holds-each-once}
 use Rattle.order.proofs.Renumbered.{order-keeps-edges, order-keeps-nodes, order-keeps-within}
-use Rattle.rules.specs.Task.{Task, taskOf, agree, countsAgree}
+use Rattle.rules.specs.Task.{taskOf}
 use Rattle.rules.specs.Placement.{Placement, edgesOf}
-use Rattle.placements.specs.Claims.{LabelsBelow, AcceptedFile, OfOneKind, Sound, graphsAgree, onPositions, onIds, Renumbered}
+use Rattle.placements.specs.Claims.{LabelsBelow, AcceptedFile, OfOneKind, Renumbered}
 use Rattle.placements.proofs.Labels.{edges-compared, edges-not-compared}
 
 pub record Alike (s : Settings) (g h : Graph) (to back : ℕ → ℕ) : Type 0 where

@@ -1,13 +1,11 @@
 -- The search as a chain of its steps, with the pairs that it accepts and the maps that it finds on the way; from Outer on an accepted
 -- path it comes to Unwind on that path, with the numbers and the maps of the recursion.
 use Prim.Native.Nat.{ℕ, zero, suc, _+_, _-_, _≤_, _<_}
-use native.Mathlib.Nat.{zero-add, suc-add}
-use mathlib.Core.Bool.{Bool, true, false, cond, _&&_}
+use mathlib.Core.Bool.{Bool, true, false, cond}
 use mathlib.Core.List.{List, [], _∷_, _++_, append-nil, append-assoc, nil≢cons, head-eq-of-cons-eq, tail-eq-of-cons-eq}
-use mathlib.Core.Option.{Option, none, some}
+use mathlib.Core.Option.{none, some}
 use mathlib.Core.Path.{_≡_, refl, sym, _∙_, ap}
 use native.Mathlib.Omega.{arith}
-use lib.Dec.{ltb}
 use lib.ListN.{length}
 use borrow.Author.Tests.{lt-ltb}
 use Rattle.lists.specs.Lists.{from, keep, total, member}
@@ -15,11 +13,11 @@ use Rattle.lists.proofs.Tests.{case, option-case}
 use Rattle.lists.proofs.Laws.{from-none, from-suc, keep-nil, keep-true, keep-false, keep-same-from, total-nil, total-cons, member-head, member-tail}
 use Rattle.packed.specs.Graph.{nodes}
 use Rattle.rules.specs.Task.{Task}
-use Rattle.rules.specs.Marks.{Candidate, head, least, nextFrom}
-use Rattle.rules.specs.Search.{Top, Outer, Inner, Unwind, pairsOf, candidateAt, innerOr, nextTop, onward, accepts, offered, acceptedPath}
+use Rattle.rules.specs.Marks.{Candidate, head, nextFrom}
+use Rattle.rules.specs.Search.{Top, Outer, Inner, Unwind, pairsOf, candidateAt, innerOr, onward, accepts, offered, acceptedPath}
 use Rattle.placements.specs.Listed.{joined, tried, whole, itself, orItself, mapsFrom, stepsFrom, pairsFrom, listed, stepsOf, acceptedOf}
 use Rattle.placements.proofs.Candidates.{inList₀, candidate-least, offered-at}
-use Rattle.placements.proofs.Paths.{accepted-nil, accepted-longer, tried-offered, tried-none, no-candidate, whole-at}
+use Rattle.placements.proofs.Paths.{accepted-nil, accepted-longer, tried-offered, tried-none, no-candidate}
 
 -- what is kept after the first that is kept
 pub first-kept : (p : ℕ → Bool) (k i x : ℕ) (r : List ℕ) → keep p (from i k) ≡ x ∷ r → (keep p (from (suc x) (i + k - suc x)) ≡ r) × (i ≤ x) × (x < i + k)

@@ -1,6 +1,6 @@
 -- One-to-one matching of labelled edges, each taking the first equal one that is free, succeeds exactly where none stands more
 -- often in the first list than in the second.
-use Prim.Native.Nat.{ℕ, _+_, _≤_, _<_}
+use Prim.Native.Nat.{ℕ, _+_, _≤_}
 use mathlib.Core.Bool.{Bool, true, false, cond, _&&_}
 use mathlib.Core.List.{List, [], _∷_}
 use mathlib.Core.Option.{Option, none, some}

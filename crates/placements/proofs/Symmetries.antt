@@ -1,23 +1,21 @@
 -- The identity is a placement, placements follow one another, and under Equal a placement can be turned round.
 use Prim.Native.Nat.{ℕ, zero, suc, _+_, _≤_, _<_}
 use native.Mathlib.Nat.{le-refl, le-trans, le-of-eq}
-use mathlib.Core.Bool.{Bool, true, false, _&&_}
+use mathlib.Core.Bool.{Bool, true, false}
 use mathlib.Core.List.{List, [], _∷_, map}
 use mathlib.Core.Path.{_≡_, refl, sym, _∙_, ap}
 use native.Mathlib.Omega.{arith}
-use lib.Dec.{eqb, leb}
 use lib.ListN.{length, getD, length-map}
 use borrow.Author.Tests.{eqb-true, eq-eqb, leb-true, le-leb}
-use Rattle.lists.specs.Lists.{Distinct, from, member, place}
+use Rattle.lists.specs.Lists.{Distinct, from, member}
 use Rattle.lists.proofs.Tests.{and-intro, and-left, and-right, never, false-by}
 use Rattle.lists.proofs.Laws.{from-none, from-suc, from-length, from-at, member-nil, member-head, member-tail, member-cases, member-from, map-at}
 use Rattle.lists.proofs.Distinct.{distinct-all}
-use Rattle.lists.proofs.Place.{place-at, at-place}
-use Rattle.packed.specs.Graph.{Graph, nodes}
-use Rattle.packed.specs.Settings.{Settings}
+use Rattle.lists.proofs.Place.{place-at}
+use Rattle.packed.specs.Graph.{nodes}
 use Rattle.rules.specs.Task.{agree}
-use Rattle.rules.specs.Placement.{Placement, edgesOf}
-use Rattle.placements.specs.Claims.{OfOneKind, graphsAgree, Identity, Chained, CountsChained, reverse, Reverse, Reversed}
+use Rattle.rules.specs.Placement.{edgesOf}
+use Rattle.placements.specs.Claims.{Identity, Chained, CountsChained, reverse, Reversed}
 use Rattle.placements.proofs.Sums.{Into, Apart}
 use Rattle.placements.proofs.Kept.{equal-nodes, edges-equal}
 

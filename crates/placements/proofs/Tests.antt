@@ -2,14 +2,14 @@
 -- w; `matches` says the same of each label's edges, where no two nodes have the same partner.
 use Prim.Native.Nat.{ℕ, zero, suc, _+_, _≤_, _<_}
 use mathlib.Core.Bool.{Bool, true, false, cond, _&&_}
-use mathlib.Core.List.{List, [], _∷_, map}
+use mathlib.Core.List.{List, [], _∷_}
 use mathlib.Core.Option.{Option, none, some}
 use mathlib.Core.Path.{_≡_, refl, sym, _∙_, ap}
 use native.Mathlib.Omega.{arith}
 use lib.Dec.{eqb, leb}
 use borrow.Author.Tests.{eqb-true, eqb-false, leb-true, le-leb, eq-eqb}
-use Rattle.lists.specs.Lists.{from, count}
-use Rattle.lists.proofs.Tests.{case, option-case, never, and-intro, and-left, and-right, eqb-swap}
+use Rattle.lists.specs.Lists.{from}
+use Rattle.lists.proofs.Tests.{case, never, and-intro, and-left, and-right, eqb-swap}
 use Rattle.lists.proofs.Laws.{from-none, from-suc, count-nil, count-cons}
 use Rattle.packed.specs.Graph.{Edge, Graph, nodes}
 use Rattle.graph.specs.Walk.{joins, leads}
@@ -17,7 +17,7 @@ use Rattle.graph.specs.Within.{Within}
 use Rattle.graph.proofs.Walk.{Below, leadsTo, joins-leads, leads-below}
 use Rattle.order.specs.Claims.{labelledBetween}
 use Rattle.rules.specs.Task.{Pairs, partner}
-use Rattle.rules.specs.Acceptable.{all, ifAny, covers, labelledEntry, labelledEntries, labelledWalk, carried, isSubset, matches}
+use Rattle.rules.specs.Acceptable.{all, ifAny, covers, labelledEntry, labelledEntries, labelledWalk, carried, matches}
 use Rattle.rules.proofs.Laws.{all-nil, all-cons}
 use Rattle.placements.proofs.Sums.{sum, sum-same, sum-zero, sum-add, sum-one, sum-at, sum-most-one}
 use Rattle.placements.proofs.Labels.{labelled-cons, passing}

@@ -1,18 +1,13 @@
 -- Where no limit holds it, a search is a matter of its number of steps: the record that they come to, the pairs that they accept,
 -- the maps that they find.
-use Prim.Native.Nat.{ℕ, zero, suc, _+_, _≤_, _<_}
+use Prim.Native.Nat.{ℕ, zero, suc, _+_, _≤_}
 use mathlib.Core.Bool.{Bool, true, false, cond}
 use mathlib.Core.List.{List, [], _∷_, _++_}
-use mathlib.Core.Option.{Option, none, some}
-use mathlib.Core.Path.{_≡_, refl, sym, _∙_, ap}
+use mathlib.Core.Option.{none}
+use mathlib.Core.Path.{_≡_, refl, _∙_, ap}
 use native.Mathlib.Omega.{arith}
-use lib.Dec.{eqb}
-use lib.ListN.{length}
-use Rattle.packed.specs.Graph.{nodes}
 use Rattle.rules.specs.Task.{Task}
-use Rattle.rules.specs.Marks.{Candidate}
-use Rattle.rules.specs.Search.{Top, Outer, Inner, Unwind, Record, started, candidateAt, onward, accepts, above, raised, step}
-use Rattle.placements.specs.Listed.{whole}
+use Rattle.rules.specs.Search.{Top, Outer, Inner, Unwind, Record, onward, above, raised, step}
 use Rattle.placements.specs.Calls.{takes, after, acceptedIn, foundIn}
 use Rattle.placements.proofs.Steps.{step-candidate, step-none, step-taken, step-passed, step-left}
 use Rattle.placements.proofs.Searched.{Search, nothing, opened, closed, found, taken, passed, left}

@@ -1,7 +1,6 @@
 -- The limit plays no part in what is tried and accepted, and so none in the listing.
-use Prim.Native.Nat.{ℕ, zero, suc, _+_, _≤_, _<_}
-use mathlib.Core.Bool.{Bool, true, false, cond}
-use mathlib.Core.List.{List, [], _∷_, _++_}
+use Prim.Native.Nat.{ℕ, zero, suc}
+use mathlib.Core.List.{List, [], _∷_}
 use mathlib.Core.Option.{Option, none, some}
 use mathlib.Core.Path.{_≡_, refl, sym, _∙_, ap, fun-ext}
 use Rattle.lists.specs.Lists.{from, keep, total}
@@ -9,8 +8,8 @@ use Rattle.packed.specs.Graph.{nodes}
 use Rattle.rules.specs.Task.{Task, Pairs}
 use Rattle.rules.specs.Marks.{OpenList, Candidate, candidate, nextFrom}
 use Rattle.rules.specs.Acceptable.{linked, labelled, ahead, sameLabel, feasible, acceptable}
-use Rattle.rules.specs.Search.{Top, Outer, Inner, Unwind, pairsOf, candidateAt, nodeOf, inItsList, innerOr, nextTop, onward, accepts, offered}
-use Rattle.placements.specs.Listed.{joined, tried, whole, orItself, mapsFrom, stepsFrom, pairsFrom}
+use Rattle.rules.specs.Search.{Top, pairsOf, candidateAt, nodeOf, inItsList, nextTop, onward, accepts, offered}
+use Rattle.placements.specs.Listed.{joined, tried, orItself, mapsFrom, stepsFrom, pairsFrom}
 use Rattle.placements.specs.Calls.{unlimited}
 use Rattle.placements.specs.Claims.{LimitPlaysNoPart}
 use Rattle.placements.proofs.Paths.{pairs-nil, pairs-cons}
