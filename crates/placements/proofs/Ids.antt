@@ -19,12 +19,13 @@ use Rattle.order.proofs.Once.{order-holds-each-once}
 use Rattle.order.proofs.Renumbered.{order-keeps-nodes}
 use Rattle.rules.specs.Task.{Task, taskOf, agree}
 use Rattle.rules.specs.Placement.{Placement}
-use Rattle.rules.specs.Search.{mapOf}
+use Rattle.rules.specs.Search.{mapOf, continue}
 use Rattle.placements.specs.Listed.{whole, listed}
 use Rattle.placements.specs.Claims.{OfOneKind, graphsAgree, reverse, onPositions, imageIn, Places, MapShows, shows, idImage, idPairs, showsIds, ListingOfIds, SymmetriesListed}
 use Rattle.placements.proofs.Tests.{all-intro, all-elim}
 use Rattle.placements.proofs.Symmetries.{identity, chained, counts-chained, reversed}
 use Rattle.placements.proofs.Renumbered.{Alike, alike₀, alike₁, renumbered-placements}
+use Rattle.placements.proofs.Accepted.{every-map-places}
 use Rattle.placements.proofs.Once.{count-each, listed-once}
 use Rattle.placements.proofs.Listing.{all-placed, each-map}
 
@@ -114,6 +115,7 @@ module _ (s : Settings) (g₀ g₁ : Graph) (files : OfOneKind g₀ g₁) where
               count-each (λ path. (whole t path ≡ true) × Places t (imageIn t path)) (showsIds s g₀ g₁ φ) (shows t (onPositions s g₀ g₁ φ)) (listed t) (all-placed t (k .sound))
               (λ path m. by-iff (showsIds s g₀ g₁ φ path) (shows t (onPositions s g₀ g₁ φ) path) (where-ids φ p path (m .1)) (ids-where φ p path (m .1)))
               ∙ listed-once t (onPositions s g₀ g₁ φ) (k .sound) (k .counts ∙ agreed) (k .to-positions φ p);
+          found-places = λ b r e f. k .to-ids (imageIn t (continue t b r .record′ .path)) (every-map-places t (k .sound) b r e f);
         }
 
 agree-own : (greater : Bool) (x : ℕ) → agree greater x x ≡ true

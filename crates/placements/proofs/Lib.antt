@@ -13,6 +13,7 @@ pub mod Candidates
 pub mod Paths
 pub mod Placed
 pub mod Steps
+pub mod Budgets
 pub mod Accepted
 pub mod Searched
 pub mod Bound

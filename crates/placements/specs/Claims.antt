@@ -14,7 +14,7 @@ use Rattle.graph.specs.Within.{Within}
 use Rattle.order.specs.Order.{nodeOrder}
 use Rattle.rules.specs.Task.{Task, taskOf, agree, countsAgree, exchanged, partner}
 use Rattle.rules.specs.Acceptable.{all}
-use Rattle.rules.specs.Search.{Record, started, pairsOf, imageOf, mapOf, Answer, Found, None, Limit, continue, acceptedRecord}
+use Rattle.rules.specs.Search.{Record, started, pairsOf, imageOf, mapOf, Answer, Found, None, Limit, Paused, continue, acceptedRecord}
 use Rattle.rules.specs.Placement.{Placement}
 use Rattle.placements.specs.Listed.{whole, listed, stepsOf, acceptedOf}
 use Rattle.placements.specs.Calls.{Called, calls, unlimited, after, acceptedIn, foundIn}
@@ -156,7 +156,19 @@ pub record LimitPlaysNoPart (t : Task) : Type 0 where
 abbrev pub NoMap : Task → Type 0
 NoMap t = (budget : ℕ) (r : Record) → continue t budget r ≡ record { answer = None; steps = 0; record′ = r }
 
+-- a call makes no more steps than its budget, and pauses only once they are made; the next call goes on as if it had not paused
+pub record Budgets (t : Task) : Type 0 where
+  pub within : (budget : ℕ) (r : Record) → continue t budget r .steps ≤ budget
+  pub paused-used : (budget : ℕ) (r : Record) → continue t budget r .answer ≡ Paused → continue t budget r .steps ≡ budget
+  pub goes-on : (budget more : ℕ) (r : Record) → continue t budget r .answer ≡ Paused
+      → (continue t (budget + more) r .answer ≡ continue t more (continue t budget r .record′) .answer)
+      × (continue t (budget + more) r .steps ≡ budget + continue t more (continue t budget r .record′) .steps)
+      × (continue t (budget + more) r .record′ ≡ continue t more (continue t budget r .record′) .record′)
+
 -- Calls from Start, whatever the budgets and the limit, by what the search without a limit does in as many steps
+
+abbrev pub called : (t : Task) → List ℕ → Called t
+called t budgets = calls t budgets started
 
 pub record FromStart (t : Task) (c : Called t) : Type 0 where
   -- the maps are the first ones of the listing
@@ -173,8 +185,8 @@ pub record FromStart (t : Task) (c : Called t) : Type 0 where
 -- budgets change neither the maps nor their order nor the ending, nor anything else of what all calls together come to
 abbrev pub BudgetsAlike : Task → Type 0
 BudgetsAlike t =
-    (budgets others : List ℕ) (a b : Answer t) → calls t budgets started .ending ≡ some a → calls t others started .ending ≡ some b
-    → calls t budgets started ≡ calls t others started
+    (budgets others : List ℕ) (a b : Answer t) → called t budgets .ending ≡ some a → called t others .ending ≡ some b
+    → called t budgets ≡ called t others
 
 abbrev pub AtLeastOne : List ℕ → Type 0
 AtLeastOne budgets = Each (λ b. 1 ≤ b) budgets
@@ -183,10 +195,10 @@ AtLeastOne budgets = Each (λ b. 1 ≤ b) budgets
 pub record Listing (t : Task) : Type 0 where
   pub all-place : Each (λ path. (whole t path ≡ true) × Places t (imageIn t path)) (listed t)
   pub each-once : (φ : ℕ → ℕ) → Places t φ → count (shows t φ) (listed t) ≡ 1
-  pub calls-first : (budgets : List ℕ) → FromStart t (calls t budgets started)
-  pub calls-whole : (budgets : List ℕ) (a : Answer t) → calls t budgets started .ending ≡ some a
-      → (a ≡ None) × (calls t budgets started .maps ≡ listed t) × (calls t budgets started .steps ≡ stepsOf t)
-  pub calls-end : (budgets : List ℕ) → AtLeastOne budgets → stepsOf t < length budgets → calls t budgets started .ending ≡ some None
+  pub calls-first : (budgets : List ℕ) → FromStart t (called t budgets)
+  pub calls-whole : (budgets : List ℕ) (a : Answer t) → called t budgets .ending ≡ some a
+      → (a ≡ None) × (called t budgets .maps ≡ listed t) × (called t budgets .steps ≡ stepsOf t)
+  pub calls-end : (budgets : List ℕ) → AtLeastOne budgets → stepsOf t < length budgets → called t budgets .ending ≡ some None
   pub budgets-alike : BudgetsAlike t
   pub steps-within : stepsOf t ≤ (nodes (t .graph₀) + 2) * permutations (nodes (t .graph₀)) (nodes (t .graph₁))
 
@@ -196,16 +208,16 @@ LimitMost t = (limit : ℕ) → t .settings .limit ≡ some limit → limit ≤ 
 
 -- with a limit, the ending is Limit exactly where the search without one accepts more pairs
 pub record Limited (t : Task) (limit : ℕ) : Type 0 where
-  pub calls-first : (budgets : List ℕ) → FromStart t (calls t budgets started)
-  pub accepted-exact : (budgets : List ℕ) → calls t budgets started .record′ .accepted ≡ acceptedIn (unlimited t) (calls t budgets started .steps) started
-  pub ending : (budgets : List ℕ) (a : Answer t) → calls t budgets started .ending ≡ some a → a ≡ cond (ltb limit (acceptedOf t)) Limit None
-  pub ended-none : (budgets : List ℕ) → calls t budgets started .ending ≡ some None
-      → (calls t budgets started .maps ≡ listed t) × (calls t budgets started .steps ≡ stepsOf t)
+  pub calls-first : (budgets : List ℕ) → FromStart t (called t budgets)
+  pub accepted-exact : (budgets : List ℕ) → called t budgets .record′ .accepted ≡ acceptedIn (unlimited t) (called t budgets .steps) started
+  pub ending : (budgets : List ℕ) (a : Answer t) → called t budgets .ending ≡ some a → a ≡ cond (ltb limit (acceptedOf t)) Limit None
+  pub ended-none : (budgets : List ℕ) → called t budgets .ending ≡ some None
+      → (called t budgets .maps ≡ listed t) × (called t budgets .steps ≡ stepsOf t)
   -- it ends at the step that accepts one pair more than the limit
-  pub ended-limit : (budgets : List ℕ) → calls t budgets started .ending ≡ some Limit
-      → (s : ℕ) × (calls t budgets started .steps ≡ suc s) × (acceptedIn (unlimited t) s started ≡ limit) × (acceptedIn (unlimited t) (suc s) started ≡ suc limit)
+  pub ended-limit : (budgets : List ℕ) → called t budgets .ending ≡ some Limit
+      → (s : ℕ) × (called t budgets .steps ≡ suc s) × (acceptedIn (unlimited t) s started ≡ limit) × (acceptedIn (unlimited t) (suc s) started ≡ suc limit)
   pub calls-end : (budgets : List ℕ) → AtLeastOne budgets → stepsOf t < length budgets
-      → calls t budgets started .ending ≡ some (cond (ltb limit (acceptedOf t)) Limit None)
+      → called t budgets .ending ≡ some (cond (ltb limit (acceptedOf t)) Limit None)
   pub budgets-alike : BudgetsAlike t
 
 -- The records that are accepted are those that the search passes on its way from Start, the accepted count aside
@@ -235,6 +247,9 @@ module _ (s : Settings) (g₀ g₁ : Graph) where
     pub pairs : (path : List ℕ) → idPairs path ≡ map (λ v. (idImage path v, v)) (nodeOrder (s .vf2pp) g₁)
     pub all-place : Each (λ path. Placement s g₀ g₁ (idImage path)) (listed (taskOf s g₀ g₁))
     pub each-once : (φ : ℕ → ℕ) → Placement s g₀ g₁ φ → count (showsIds φ) (listed (taskOf s g₀ g₁)) ≡ 1
+    -- whatever the limit and the record
+    pub found-places : (budget : ℕ) (r : Record) → acceptedRecord (taskOf s g₀ g₁) r ≡ true → continue (taskOf s g₀ g₁) budget r .answer ≡ Found
+        → Placement s g₀ g₁ (idImage (continue (taskOf s g₀ g₁) budget r .record′ .path))
 
 -- a graph is listed in itself, a chain of listed placements is listed, and under Equal the reverse of one
 pub record SymmetriesListed (s : Settings) : Type 0 where
