@@ -47,7 +47,8 @@ module _ (t : Task) where
   inner-offered path none h = refl
   inner-offered path (some x) h = h x refl
 
-  next-offered : (path : List ℕ) (c : Candidate) (x y : ℕ) → candidateAt t path ≡ some c → nextFrom t (pairsOf t path) (c .list) x ≡ some y → offered t path y ≡ true
+  next-offered : (path : List ℕ) (c : Candidate) (x y : ℕ) → candidateAt t path ≡ some c → nextFrom t (pairsOf t path) (c .list) x ≡ some y
+      → offered t path y ≡ true
   unfolding nextFrom
   next-offered path c x y e h =
       let p = inList₀ t (pairsOf t path) (c .list) in
@@ -69,19 +70,23 @@ module _ (t : Task) where
       (λ e. rw (step-none t path k e) (record { path-accepted = g .path-accepted; top-offered = refl }))
       (λ c e.
       let w = candidate-node₀ t (pairsOf t path) c e in
-      rw (step-candidate t path k c e) (record { path-accepted = g .path-accepted; top-offered = offered-by t path c (c .node₀) e (w .1) (w .0) }))
+      rw (step-candidate t path k c e)
+      (record { path-accepted = g .path-accepted; top-offered = offered-by t path c (c .node₀) e (w .1) (w .0) }))
   step-good path (Inner x) k g =
       case (accepts t path x)
       (λ e. case (above t (t .settings .limit) (raised t k))
       (λ f. rw (step-over t path x k e f) (record { path-accepted = g .path-accepted; top-offered = g .top-offered }))
-      (λ f. rw (step-taken t path x k e f) (record { path-accepted = accepted-longer t x path (g .path-accepted) (g .top-offered) e; top-offered = refl })))
+      (λ f. rw (step-taken t path x k e f)
+      (record { path-accepted = accepted-longer t x path (g .path-accepted) (g .top-offered) e; top-offered = refl })))
       (λ e. rw (step-passed t path x k e) (record { path-accepted = g .path-accepted; top-offered = onward-offered path x }))
   step-good [] Unwind k g = rw (step-end t k) (record { path-accepted = g .path-accepted; top-offered = refl })
   step-good (x ∷ path) Unwind k g =
-      rw (step-left t path x k) (record { path-accepted = accepted-shorter t x path (g .path-accepted); top-offered = onward-offered path x })
+      rw (step-left t path x k)
+      (record { path-accepted = accepted-shorter t x path (g .path-accepted); top-offered = onward-offered path x })
 
   pub steps-keep-good : (r : Record) → Good r → Good (step t (r .path) (r .top) (r .accepted) .0)
-  steps-keep-good r g = step-good (r .path) (r .top) (r .accepted) (record { path-accepted = g .path-accepted; top-offered = g .top-offered })
+  steps-keep-good r g =
+      step-good (r .path) (r .top) (r .accepted) (record { path-accepted = g .path-accepted; top-offered = g .top-offered })
 
   pub start-good : Good started
   start-good = record { path-accepted = accepted-nil t; top-offered = refl }
@@ -114,5 +119,7 @@ module _ (t : Task) where
 
   pub every-map-places : Sound t → EveryMapPlaces t
   every-map-places sound b r e f =
-      let m = run-found t Good steps-keep-good Map (λ q g h. found-map (q .path) (q .top) (q .accepted) (g .path-accepted) h) b 0 r (accepted-good r e) f in
+      let m =
+      run-found t Good steps-keep-good Map (λ q g h. found-map (q .path) (q .top) (q .accepted) (g .path-accepted) h) b 0 r
+      (accepted-good r e) f in
       path-places t sound (continue t b r .record′ .path) (m .map-accepted) (m .map-whole)

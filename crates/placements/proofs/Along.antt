@@ -60,7 +60,8 @@ partner-along R (p ∷ ps) o x y e =
 abbrev pub Single : (ℕ → ℕ → Type 0) → Type 0
 Single R = (x y z : ℕ) → R x y → R x z → y ≡ z
 
-pub member-along : (R : ℕ → ℕ → Type 0) → Single R → (ps : Pairs) → Along R ps → (x y : ℕ) → R x y → member x (mapped ps) ≡ true → member y (mapped (exchanged ps)) ≡ true
+pub member-along : (R : ℕ → ℕ → Type 0) → Single R → (ps : Pairs) → Along R ps → (x y : ℕ) → R x y → member x (mapped ps) ≡ true
+    → member y (mapped (exchanged ps)) ≡ true
 member-along R single [] o x y r e = never (member x []) e (member-nil x)
 member-along R single (p ∷ ps) o x y r e =
     member-cases x (p .0) (mapped ps) e

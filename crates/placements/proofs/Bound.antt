@@ -58,7 +58,8 @@ module _ (t : Task) where
       let here : stepsAt t k path x ≡ 1 = rw e in
       omega (arith, total-cons (stepsAt t k path) x r))
 
-  steps-most : (k : ℕ) (path : List ℕ) → acceptedPath t path ≡ true → suc (stepsFrom t k path) ≤ (nodes (t .graph₀) + 2) * permutations (nodes (t .graph₀) - length path) k
+  steps-most : (k : ℕ) (path : List ℕ) → acceptedPath t path ≡ true
+      → suc (stepsFrom t k path) ≤ (nodes (t .graph₀) + 2) * permutations (nodes (t .graph₀) - length path) k
   steps-most zero path a = rw (permutations-one (nodes (t .graph₀) - length path), steps-last t path) (omega arith)
   steps-most (suc k) path a =
       let n = nodes (t .graph₀) in

@@ -23,15 +23,18 @@ module _ (t : Task) where
   later zero n m r =
       option-case (stops t r)
       (λ e. rw (run-pauses t (n + m) r e, run-pauses t m r e) (record { same-answer = refl; more-steps = refl; same-record = refl }))
-      (λ a e. rw (run-stops t 0 (n + m) r a e, run-stops t 0 m r a e) (record { same-answer = refl; more-steps = refl; same-record = refl }))
+      (λ a e. rw (run-stops t 0 (n + m) r a e, run-stops t 0 m r a e)
+      (record { same-answer = refl; more-steps = refl; same-record = refl }))
   later (suc b) n m r =
       option-case (stops t r)
       (λ e. case (step t (r .path) (r .top) (r .accepted) .1)
-      (λ f. rw (run-finds t b (n + m) r e f, run-finds t b m r e f) (record { same-answer = refl; more-steps = omega arith; same-record = refl }))
+      (λ f. rw (run-finds t b (n + m) r e f, run-finds t b m r e f)
+      (record { same-answer = refl; more-steps = omega arith; same-record = refl }))
       (λ f.
       let same : suc (n + m) ≡ n + suc m = omega arith in
       rw (run-goes-on t b (n + m) r e f, run-goes-on t b m r e f, same) (later b n (suc m) (stepped r))))
-      (λ a e. rw (run-stops t (suc b) (n + m) r a e, run-stops t (suc b) m r a e) (record { same-answer = refl; more-steps = refl; same-record = refl }))
+      (λ a e. rw (run-stops t (suc b) (n + m) r a e, run-stops t (suc b) m r a e)
+      (record { same-answer = refl; more-steps = refl; same-record = refl }))
 
   run-within : (b n : ℕ) (r : Record) → run t b n r .steps ≤ n + b
   run-within zero n r =
@@ -45,7 +48,8 @@ module _ (t : Task) where
 
   run-used : (b n : ℕ) (r : Record) → run t b n r .answer ≡ Paused → run t b n r .steps ≡ n + b
   run-used zero n r p =
-      option-case (stops t r) (λ e. rw (run-pauses t n r e) (omega arith)) (λ a e. absurd (stops-not-paused t r a e (rw (run-stops t 0 n r a e) at p)))
+      option-case (stops t r) (λ e. rw (run-pauses t n r e) (omega arith))
+      (λ a e. absurd (stops-not-paused t r a e (rw (run-stops t 0 n r a e) at p)))
   run-used (suc b) n r p =
       option-case (stops t r)
       (λ e. case (step t (r .path) (r .top) (r .accepted) .1)
@@ -80,6 +84,9 @@ module _ (t : Task) where
             let same : 0 + b ≡ b + 0 = omega arith in
             let next = continue t b r .record′ in
             let more : continue t (b + m) r ≡ run t m (b + 0) next = rw same at (run-more b m 0 r p) in
-            let l = later m b 0 next in
-            (ap (λ w. w .answer) more ∙ l .same-answer, ap (λ w. w .steps) more ∙ l .more-steps, ap (λ w. w .record′) more ∙ l .same-record);
+            let l = later m b 0 next in (
+              ap (λ w. w .answer) more ∙ l .same-answer,
+              ap (λ w. w .steps) more ∙ l .more-steps,
+              ap (λ w. w .record′) more ∙ l .same-record,
+            );
       }

@@ -27,25 +27,31 @@ module _ (t : Task) where
     unfolding calls
     calls-found e = rw (e, calls)
 
-    calls-paused : continue t b r .answer ≡ Paused → calls t (b ∷ bs) r ≡ after-call t [] (continue t b r .steps) (calls t bs (continue t b r .record′))
+    calls-paused : continue t b r .answer ≡ Paused
+        → calls t (b ∷ bs) r ≡ after-call t [] (continue t b r .steps) (calls t bs (continue t b r .record′))
     unfolding calls
     calls-paused e = rw (e, calls)
 
     calls-none : continue t b r .answer ≡ None → calls t (b ∷ bs) r ≡ last-call t (continue t b r)
     unfolding calls
-    calls-none e = rw (e, calls) (λ i. record { maps = []; steps = continue t b r .steps; ending = some (e i); record′ = continue t b r .record′ })
+    calls-none e =
+        rw (e, calls) (λ i. record { maps = []; steps = continue t b r .steps; ending = some (e i); record′ = continue t b r .record′ })
 
     calls-limit : continue t b r .answer ≡ Limit → calls t (b ∷ bs) r ≡ last-call t (continue t b r)
     unfolding calls
-    calls-limit e = rw (e, calls) (λ i. record { maps = []; steps = continue t b r .steps; ending = some (e i); record′ = continue t b r .record′ })
+    calls-limit e =
+        rw (e, calls) (λ i. record { maps = []; steps = continue t b r .steps; ending = some (e i); record′ = continue t b r .record′ })
 
   -- what calls come to, from a point with s steps and these maps behind it
   pub data Ends (budgets : List ℕ) (done : List (List ℕ)) (s : ℕ) (w : Called t) : Type 0 where
     ends-open : w .ending ≡ none → (s′ c : ℕ) → Point t (w .record′) (done ++ w .maps) s′ c → w .steps + s ≡ s′
         → (AtLeastOne budgets → length budgets ≤ w .steps) → Ends budgets done s w
-    ends-none : w .ending ≡ some None → done ++ w .maps ≡ listed t → w .steps + s ≡ stepsOf t → w .record′ .path ≡ [] → w .record′ .top ≡ Unwind
-        → w .record′ .accepted ≡ min (acceptedOf t) 4294967295 → above t (t .settings .limit) (w .record′ .accepted) ≡ false → Ends budgets done s w
-    ends-limit : w .ending ≡ some Limit → (s′ c : ℕ) → Exceeded t (w .record′) (done ++ w .maps) s′ c → w .steps + s ≡ s′ → Ends budgets done s w
+    ends-none : w .ending ≡ some None → done ++ w .maps ≡ listed t → w .steps + s ≡ stepsOf t → w .record′ .path ≡ []
+        → w .record′ .top ≡ Unwind
+        → w .record′ .accepted ≡ min (acceptedOf t) 4294967295 → above t (t .settings .limit) (w .record′ .accepted) ≡ false
+        → Ends budgets done s w
+    ends-limit : w .ending ≡ some Limit → (s′ c : ℕ) → Exceeded t (w .record′) (done ++ w .maps) s′ c → w .steps + s ≡ s′
+        → Ends budgets done s w
 
   -- a call more in front, which finds these maps
   ends-more : (b : ℕ) (budgets : List ℕ) (done maps : List (List ℕ)) (s n s′ : ℕ) (w : Called t) → n + s ≡ s′ → (1 ≤ b → 1 ≤ n)
@@ -61,7 +67,8 @@ module _ (t : Task) where
     abbrev Calls : List ℕ → Type 0
     Calls budgets = (r : Record) (done : List (List ℕ)) (s c : ℕ) → Point t r done s c → Ends budgets done s (calls t budgets r)
 
-    one-call : (b : ℕ) (budgets : List ℕ) → Calls budgets → (r : Record) (done : List (List ℕ)) (s : ℕ) → Ran t most b 0 done s (continue t b r) → Ends (b ∷ budgets) done s (calls t (b ∷ budgets) r)
+    one-call : (b : ℕ) (budgets : List ℕ) → Calls budgets → (r : Record) (done : List (List ℕ)) (s : ℕ)
+        → Ran t most b 0 done s (continue t b r) → Ends (b ∷ budgets) done s (calls t (b ∷ budgets) r)
     one-call b budgets rest r done s (ran-none a e d x y z v) =
         rw (calls-none b budgets r a) (ends-none (ap some a) (append-nil done ∙ d) (omega arith) x y z v)
     one-call b budgets rest r done s (ran-limit a s′ c p e) =

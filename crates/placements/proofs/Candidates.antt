@@ -31,7 +31,9 @@ least-some p n x e =
 pub least-none : (p : ℕ → Bool) (n x : ℕ) → least p n 0 ≡ none → x < n → p x ≡ false
 least-none p n x e l =
     false-by (p x)
-    (λ h. never (member x []) (rw (head-none (keep p (from 0 (n - 0))) e) at (member-kept p x (from 0 (n - 0)) h (from-member (n - 0) 0 x (omega arith) (omega arith)))) (member-nil x))
+    (λ h. never (member x [])
+    (rw (head-none (keep p (from 0 (n - 0))) e) at
+    (member-kept p x (from 0 (n - 0)) h (from-member (n - 0) 0 x (omega arith) (omega arith)))) (member-nil x))
 
 -- a node of a list is not mapped
 pub list-unmapped : (g : Graph) (us : List ℕ) (list : OpenList) (v : ℕ) → inList g us list v ≡ true → member v us ≡ false
@@ -49,9 +51,11 @@ module _ (t : Task) where
   abbrev Fits : Pairs → Option Candidate → Type 0
   Fits ps none = Unit
   Fits ps (some c) =
-      (least (inList₀ ps (c .list)) (nodes (t .graph₀)) 0 ≡ some (c .node₀)) × (least (inList₁ ps (c .list)) (nodes (t .graph₁)) 0 ≡ some (c .node₁))
+      (least (inList₀ ps (c .list)) (nodes (t .graph₀)) 0 ≡ some (c .node₀)) ×
+      (least (inList₁ ps (c .list)) (nodes (t .graph₁)) 0 ≡ some (c .node₁))
 
-  both-fits : (ps : Pairs) (list : OpenList) (x y : Option ℕ) → least (inList₀ ps list) (nodes (t .graph₀)) 0 ≡ x → least (inList₁ ps list) (nodes (t .graph₁)) 0 ≡ y → Fits ps (both list x y)
+  both-fits : (ps : Pairs) (list : OpenList) (x y : Option ℕ) → least (inList₀ ps list) (nodes (t .graph₀)) 0 ≡ x
+      → least (inList₁ ps list) (nodes (t .graph₁)) 0 ≡ y → Fits ps (both list x y)
   both-fits ps list none y e f = tt
   both-fits ps list (some x) none e f = tt
   both-fits ps list (some x) (some y) e f = (e, f)
@@ -61,7 +65,8 @@ module _ (t : Task) where
   or-else-fits ps (some c) d f g = f
 
   least-fits : (ps : Pairs) (list : OpenList) → Fits ps (leastOf t ps list)
-  least-fits ps list = both-fits ps list (least (inList₀ ps list) (nodes (t .graph₀)) 0) (least (inList₁ ps list) (nodes (t .graph₁)) 0) refl refl
+  least-fits ps list =
+      both-fits ps list (least (inList₀ ps list) (nodes (t .graph₀)) 0) (least (inList₁ ps list) (nodes (t .graph₁)) 0) refl refl
 
   candidate-fits : (ps : Pairs) → Fits ps (candidate t ps)
   unfolding candidate
@@ -74,10 +79,12 @@ module _ (t : Task) where
   candidate-least ps c e = rw e at (candidate-fits ps)
 
   -- the graph-0 node and the graph-1 node of the candidate
-  pub candidate-node₀ : (ps : Pairs) (c : Candidate) → candidate t ps ≡ some c → (inList₀ ps (c .list) (c .node₀) ≡ true) × (c .node₀ < nodes (t .graph₀))
+  pub candidate-node₀ : (ps : Pairs) (c : Candidate) → candidate t ps ≡ some c
+      → (inList₀ ps (c .list) (c .node₀) ≡ true) × (c .node₀ < nodes (t .graph₀))
   candidate-node₀ ps c e = least-some (inList₀ ps (c .list)) (nodes (t .graph₀)) (c .node₀) (candidate-least ps c e .0)
 
-  pub candidate-node₁ : (ps : Pairs) (c : Candidate) → candidate t ps ≡ some c → (inList₁ ps (c .list) (c .node₁) ≡ true) × (c .node₁ < nodes (t .graph₁))
+  pub candidate-node₁ : (ps : Pairs) (c : Candidate) → candidate t ps ≡ some c
+      → (inList₁ ps (c .list) (c .node₁) ≡ true) × (c .node₁ < nodes (t .graph₁))
   candidate-node₁ ps c e = least-some (inList₁ ps (c .list)) (nodes (t .graph₁)) (c .node₁) (candidate-least ps c e .1)
 
   both-none : {C : Type 0} (list : OpenList) (x y : Option ℕ) → both list x y ≡ none → (x ≡ none → C) → (y ≡ none → C) → C
@@ -90,16 +97,19 @@ module _ (t : Task) where
   or-else-none (some c) d e = absurd (let z : _≡_ {A = ℕ} 0 1 = cc in omega arith)
 
   pub candidate-none : {C : Type 0} (ps : Pairs) → candidate t ps ≡ none
-      → (((x : ℕ) → x < nodes (t .graph₀) → inList₀ ps Other x ≡ false) → C) → (((x : ℕ) → x < nodes (t .graph₁) → inList₁ ps Other x ≡ false) → C) → C
+      → (((x : ℕ) → x < nodes (t .graph₀) → inList₀ ps Other x ≡ false) → C)
+      → (((x : ℕ) → x < nodes (t .graph₁) → inList₁ ps Other x ≡ false) → C) → C
   unfolding candidate
   candidate-none ps e f g =
       both-none Other (least (inList₀ ps Other) (nodes (t .graph₀)) 0) (least (inList₁ ps Other) (nodes (t .graph₁)) 0)
-      (or-else-none (leastOf t ps In) (leastOf t ps Other) (or-else-none (leastOf t ps Out) (orElse (leastOf t ps In) (leastOf t ps Other)) e))
+      (or-else-none (leastOf t ps In) (leastOf t ps Other)
+      (or-else-none (leastOf t ps Out) (orElse (leastOf t ps In) (leastOf t ps Other)) e))
       (λ h. f (λ x l. least-none (inList₀ ps Other) (nodes (t .graph₀)) x h l))
       (λ h. g (λ x l. least-none (inList₁ ps Other) (nodes (t .graph₁)) x h l))
 
   -- what is offered: a node of the candidate's list
-  pub offered-at : (path : List ℕ) (c : Candidate) (x : ℕ) → candidateAt t path ≡ some c → offered t path x ≡ (ltb x (nodes (t .graph₀)) && inList₀ (pairsOf t path) (c .list) x)
+  pub offered-at : (path : List ℕ) (c : Candidate) (x : ℕ) → candidateAt t path ≡ some c
+      → offered t path x ≡ (ltb x (nodes (t .graph₀)) && inList₀ (pairsOf t path) (c .list) x)
   unfolding offered
   offered-at path c x e = rw e
 
@@ -113,7 +123,8 @@ module _ (t : Task) where
       let w = sym (offered-at path c x h) ∙ e in
       f c h (ltb-true x (nodes (t .graph₀)) (and-left (ltb x (nodes (t .graph₀))) _ w)) (and-right (ltb x (nodes (t .graph₀))) _ w))
 
-  pub offered-by : (path : List ℕ) (c : Candidate) (x : ℕ) → candidateAt t path ≡ some c → x < nodes (t .graph₀) → inList₀ (pairsOf t path) (c .list) x ≡ true → offered t path x ≡ true
+  pub offered-by : (path : List ℕ) (c : Candidate) (x : ℕ) → candidateAt t path ≡ some c → x < nodes (t .graph₀)
+      → inList₀ (pairsOf t path) (c .list) x ≡ true → offered t path x ≡ true
   offered-by path c x e l h = rw (offered-at path c x e, lt-ltb x (nodes (t .graph₀)) l) h
 
   pub offered-never : (path : List ℕ) (x : ℕ) → candidateAt t path ≡ none → offered t path x ≡ false

@@ -55,7 +55,8 @@ module _ (t : Task) where
   data Advance (r : Record) (done : List (List ℕ)) (s c : ℕ) : Type 0 where
     at-end : r .path ≡ [] → r .top ≡ Unwind → s ≡ stepsOf t → c ≡ acceptedOf t → done ≡ listed t → Advance r done s c
     finds : isEnd t (r .path) (r .top) ≡ false → step t (r .path) (r .top) (r .accepted) .1 ≡ true
-        → Point (step t (r .path) (r .top) (r .accepted) .0) (done ++ (step t (r .path) (r .top) (r .accepted) .0 .path ∷ [])) (suc s) c → Advance r done s c
+        → Point (step t (r .path) (r .top) (r .accepted) .0) (done ++ (step t (r .path) (r .top) (r .accepted) .0 .path ∷ [])) (suc s) c
+        → Advance r done s c
     moves : isEnd t (r .path) (r .top) ≡ false → step t (r .path) (r .top) (r .accepted) .1 ≡ false → (c′ : ℕ)
         → Point (step t (r .path) (r .top) (r .accepted) .0) done (suc s) c′ → Advance r done s c
     exceeds : isEnd t (r .path) (r .top) ≡ false → step t (r .path) (r .top) (r .accepted) .1 ≡ false
@@ -93,7 +94,8 @@ module _ (t : Task) where
 
   -- one step more has been made
   module _ {s c : ℕ} {done : List (List ℕ)} {path : List ℕ} {top : Top} (made : Search t [] Outer s c done path top) where
-    made-more : {m : ℕ} {o : List (List ℕ)} {next : List ℕ} {turn : Top} → Search t path top 1 m o next turn → Search t [] Outer (suc s) (c + m) (done ++ o) next turn
+    made-more : {m : ℕ} {o : List (List ℕ)} {next : List ℕ} {turn : Top} → Search t path top 1 m o next turn
+        → Search t [] Outer (suc s) (c + m) (done ++ o) next turn
     made-more x = retold t (omega arith) refl refl (then t made x)
 
     made-plain : {next : List ℕ} {turn : Top} → Search t path top 1 0 [] next turn → Search t [] Outer (suc s) c done next turn
@@ -101,7 +103,8 @@ module _ (t : Task) where
 
   module _ (most : LimitMost t) where
     -- one pair too many
-    exceeded-by : (c k : ℕ) → k ≡ min c 4294967295 → above t (t .settings .limit) k ≡ false → above t (t .settings .limit) (raised t k) ≡ true
+    exceeded-by : (c k : ℕ) → k ≡ min c 4294967295 → above t (t .settings .limit) k ≡ false
+        → above t (t .settings .limit) (raised t k) ≡ true
         → {C : Type 0} → ((limit : ℕ) → t .settings .limit ≡ some limit → c ≡ limit → raised t k ≡ suc c → C) → C
     exceeded-by c k e w o f =
         option-case (t .settings .limit)
@@ -131,7 +134,8 @@ module _ (t : Task) where
         let step-is : step t path Outer k ≡ (at path Unwind k, true) = rw v at (step-none t path k h) in
         finds (outer-not-end path) (rw step-is)
         (rw step-is
-        (point k (suc s) c (done ++ (path ∷ [])) (retold t refl (omega arith) refl (made-more made (found h v nothing))) y e f (omega arith) b
+        (point k (suc s) c (done ++ (path ∷ [])) (retold t refl (omega arith) refl (made-more made (found h v nothing))) y e f
+        (omega arith) b
         (append-assoc done (path ∷ []) o ∙ d) g w))
     advance-at k s c done made (taken {path} {s = m} {m = n} {x} {o} h y) e f a b d g w =
         case (above t (t .settings .limit) (raised t k))
@@ -162,7 +166,8 @@ module _ (t : Task) where
         let step-is = step-taken t path x k h v in
         moves (inner-not-end path x) (rw step-is) (suc c)
         (rw step-is
-        (point (raised t k) (suc s) (suc c) done (retold t refl (omega arith) (append-nil done) (made-more made (taken h nothing))) y e f (omega arith) (omega arith)
+        (point (raised t k) (suc s) (suc c) done (retold t refl (omega arith) (append-nil done) (made-more made (taken h nothing))) y e f
+        (omega arith) (omega arith)
         d (rw g (raised-counts c)) v)))
     advance-at k s c done made (passed {path} {x} h y) e f a b d g w =
         let step-is = step-passed t path x k h in
@@ -174,15 +179,19 @@ module _ (t : Task) where
         (rw step-is (point k (suc s) c done (made-plain made (left nothing)) y e f (omega arith) b d g w))
 
     advance : (r : Record) (done : List (List ℕ)) (s c : ℕ) → Point r done s c → Advance r done s c
-    advance r done s c p = advance-at (r .accepted) s c done (p .made) (p .rest) refl refl (p .steps-sum) (p .pairs-sum) (p .maps-sum) (p .counted) (p .within)
+    advance r done s c p =
+        advance-at (r .accepted) s c done (p .made) (p .rest) refl refl (p .steps-sum) (p .pairs-sum) (p .maps-sum) (p .counted) (p .within)
 
     -- what one call comes to, from a point with s steps behind it and n of them in this call
     pub data Ran (b n : ℕ) (done : List (List ℕ)) (s : ℕ) (w : Went t) : Type 0 where
       ran-none : w .answer ≡ None → w .steps + s ≡ n + stepsOf t → done ≡ listed t → w .record′ .path ≡ [] → w .record′ .top ≡ Unwind
-          → w .record′ .accepted ≡ min (acceptedOf t) 4294967295 → above t (t .settings .limit) (w .record′ .accepted) ≡ false → Ran b n done s w
+          → w .record′ .accepted ≡ min (acceptedOf t) 4294967295 → above t (t .settings .limit) (w .record′ .accepted) ≡ false
+          → Ran b n done s w
       ran-limit : w .answer ≡ Limit → (s′ c : ℕ) → Exceeded (w .record′) done s′ c → w .steps + s ≡ n + s′ → Ran b n done s w
-      ran-found : w .answer ≡ Found → (s′ c : ℕ) → Point (w .record′) (done ++ (w .record′ .path ∷ [])) s′ c → w .steps + s ≡ n + s′ → n < w .steps → Ran b n done s w
-      ran-paused : w .answer ≡ Paused → (s′ c : ℕ) → Point (w .record′) done s′ c → w .steps + s ≡ n + s′ → w .steps ≡ n + b → Ran b n done s w
+      ran-found : w .answer ≡ Found → (s′ c : ℕ) → Point (w .record′) (done ++ (w .record′ .path ∷ [])) s′ c → w .steps + s ≡ n + s′
+          → n < w .steps → Ran b n done s w
+      ran-paused : w .answer ≡ Paused → (s′ c : ℕ) → Point (w .record′) done s′ c → w .steps + s ≡ n + s′ → w .steps ≡ n + b
+          → Ran b n done s w
 
     ran-later : (b n : ℕ) (done : List (List ℕ)) (s : ℕ) (w : Went t) → Ran b (suc n) done (suc s) w → Ran (suc b) n done s w
     ran-later b n done s w (ran-none a e d p q c o) = ran-none a (omega arith) d p q c o
@@ -194,7 +203,8 @@ module _ (t : Task) where
       stops-at-end : (r : Record) → r .path ≡ [] → r .top ≡ Unwind → stops t r ≡ some None
       stops-at-end r e f = rw (agreed, e, f)
 
-      stops-over : (r : Record) → isEnd t (r .path) (r .top) ≡ false → above t (t .settings .limit) (r .accepted) ≡ true → stops t r ≡ some Limit
+      stops-over : (r : Record) → isEnd t (r .path) (r .top) ≡ false → above t (t .settings .limit) (r .accepted) ≡ true
+          → stops t r ≡ some Limit
       stops-over r e f = rw (agreed, e, f)
 
       stops-not : (r : Record) → isEnd t (r .path) (r .top) ≡ false → above t (t .settings .limit) (r .accepted) ≡ false → stops t r ≡ none
@@ -203,10 +213,12 @@ module _ (t : Task) where
       -- a call at a point, where what a smaller budget comes to after a step is known
       abbrev Onward : ℕ → ℕ → Record → List (List ℕ) → ℕ → Type 0
       Onward b n r done s =
-          (c : ℕ) → Point (step t (r .path) (r .top) (r .accepted) .0) done (suc s) c → Ran b (suc n) done (suc s) (run t b (suc n) (step t (r .path) (r .top) (r .accepted) .0))
+          (c : ℕ) → Point (step t (r .path) (r .top) (r .accepted) .0) done (suc s) c → Ran b (suc n) done (suc s)
+          (run t b (suc n) (step t (r .path) (r .top) (r .accepted) .0))
 
       module _ (n : ℕ) (r : Record) (done : List (List ℕ)) (s c : ℕ) (p : Point r done s c) where
-        run-end : (b : ℕ) → r .path ≡ [] → r .top ≡ Unwind → s ≡ stepsOf t → c ≡ acceptedOf t → done ≡ listed t → Ran b n done s (run t b n r)
+        run-end : (b : ℕ) → r .path ≡ [] → r .top ≡ Unwind → s ≡ stepsOf t → c ≡ acceptedOf t → done ≡ listed t
+            → Ran b n done s (run t b n r)
         run-end b e f x y z =
             rw (run-stops t b n r None (stops-at-end r e f))
             (ran-none refl (omega arith) z e f (p .counted ∙ ap (λ k. min k 4294967295) y) (p .within))
@@ -222,7 +234,8 @@ module _ (t : Task) where
 
         run-some : (b : ℕ) → Onward b n r done s → Advance r done s c → Ran (suc b) n done s (run t (suc b) n r)
         run-some b on (at-end e f x y z) = run-end (suc b) e f x y z
-        run-some b on (finds e f q) = rw (run-finds t b n r (stops-not r e (p .within)) f) (ran-found refl (suc s) c q (omega arith) (omega arith))
+        run-some b on (finds e f q) =
+            rw (run-finds t b n r (stops-not r e (p .within)) f) (ran-found refl (suc s) c q (omega arith) (omega arith))
         run-some b on (moves e f c′ q) =
             rw (run-goes-on t b n r (stops-not r e (p .within)) f)
             (ran-later b n done s (run t b (suc n) (step t (r .path) (r .top) (r .accepted) .0)) (on c′ q))
@@ -234,4 +247,5 @@ module _ (t : Task) where
       pub run-from : (b n : ℕ) (r : Record) (done : List (List ℕ)) (s c : ℕ) → Point r done s c → Ran b n done s (run t b n r)
       run-from zero n r done s c p = run-none n r done s c p (advance r done s c p)
       run-from (suc b) n r done s c p =
-          run-some n r done s c p b (λ c′ q. run-from b (suc n) (step t (r .path) (r .top) (r .accepted) .0) done (suc s) c′ q) (advance r done s c p)
+          run-some n r done s c p b (λ c′ q. run-from b (suc n) (step t (r .path) (r .top) (r .accepted) .0) done (suc s) c′ q)
+          (advance r done s c p)

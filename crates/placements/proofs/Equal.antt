@@ -43,7 +43,8 @@ edge-pairs : (directed : Bool) (n : ℕ) (e : Edge) → e .source < n → e .tar
 edge-pairs directed n e s t =
     sum-same n (λ x. sum n (λ y. cond (joins directed x y e) 1 0)) (λ x. cond (isSome (leads directed x e)) 1 0)
     (λ x l.
-    sum-same n (λ y. cond (joins directed x y e) 1 0) (λ y. cond (leadsTo (leads directed x e) y) 1 0) (λ y k. rw (joins-leads directed x y e))
+    sum-same n (λ y. cond (joins directed x y e) 1 0) (λ y. cond (leadsTo (leads directed x e) y) 1 0)
+    (λ y k. rw (joins-leads directed x y e))
     ∙ leads-sum n (leads directed x e) (leads-below directed n x e s t))
 
 directed-edge : (n : ℕ) (e : Edge) → e .source < n → e .target < n → edgePairs true n e ≡ 1
@@ -73,22 +74,27 @@ undirected-edge n e s t =
 
 module _ (directed : Bool) (n : ℕ) where
   pairs-nil : pairs directed n [] ≡ 0
-  pairs-nil = sum-zero n (λ x. sum n (λ y. count (joins directed x y) [])) (λ x l. sum-zero n (λ y. count (joins directed x y) []) (λ y k. count-nil (joins directed x y)))
+  pairs-nil =
+      sum-zero n (λ x. sum n (λ y. count (joins directed x y) []))
+      (λ x l. sum-zero n (λ y. count (joins directed x y) []) (λ y k. count-nil (joins directed x y)))
 
   loops-nil : loops directed n [] ≡ 0
   loops-nil = sum-zero n (λ x. count (joins directed x x) []) (λ x l. count-nil (joins directed x x))
 
   pairs-cons : (e : Edge) (es : List Edge) → pairs directed n (e ∷ es) ≡ edgePairs directed n e + pairs directed n es
   pairs-cons e es =
-      sum-same n (λ x. sum n (λ y. count (joins directed x y) (e ∷ es))) (λ x. sum n (λ y. cond (joins directed x y e) 1 0) + sum n (λ y. count (joins directed x y) es))
+      sum-same n (λ x. sum n (λ y. count (joins directed x y) (e ∷ es)))
+      (λ x. sum n (λ y. cond (joins directed x y e) 1 0) + sum n (λ y. count (joins directed x y) es))
       (λ x l.
-      sum-same n (λ y. count (joins directed x y) (e ∷ es)) (λ y. cond (joins directed x y e) 1 0 + count (joins directed x y) es) (λ y k. count-cons (joins directed x y) e es)
+      sum-same n (λ y. count (joins directed x y) (e ∷ es)) (λ y. cond (joins directed x y e) 1 0 + count (joins directed x y) es)
+      (λ y k. count-cons (joins directed x y) e es)
       ∙ sum-add n (λ y. cond (joins directed x y e) 1 0) (λ y. count (joins directed x y) es))
       ∙ sum-add n (λ x. sum n (λ y. cond (joins directed x y e) 1 0)) (λ x. sum n (λ y. count (joins directed x y) es))
 
   loops-cons : (e : Edge) (es : List Edge) → loops directed n (e ∷ es) ≡ edgeLoops directed n e + loops directed n es
   loops-cons e es =
-      sum-same n (λ x. count (joins directed x x) (e ∷ es)) (λ x. cond (joins directed x x e) 1 0 + count (joins directed x x) es) (λ x l. count-cons (joins directed x x) e es)
+      sum-same n (λ x. count (joins directed x x) (e ∷ es)) (λ x. cond (joins directed x x e) 1 0 + count (joins directed x x) es)
+      (λ x l. count-cons (joins directed x x) e es)
       ∙ sum-add n (λ x. cond (joins directed x x e) 1 0) (λ x. count (joins directed x x) es)
 
 directed-total : (n : ℕ) (es : List Edge) → Within n es → pairs true n es ≡ length es
@@ -121,12 +127,14 @@ module _ (directed : Bool) (n : ℕ) (φ : ℕ → ℕ) (es fs : List Edge) (i :
   all-equal : pairs directed n es ≡ sum n (λ x. sum n (λ y. count (joins directed (φ x) (φ y)) fs))
   all-equal =
       equal-pairs directed n es fs i j same
-      (rw (← moved) (sum-le n (λ x. sum n (λ y. count (joins directed x y) es)) (λ x. sum n (λ y. count (joins directed (φ x) (φ y)) fs)) row-least))
+      (rw (← moved)
+      (sum-le n (λ x. sum n (λ y. count (joins directed x y) es)) (λ x. sum n (λ y. count (joins directed (φ x) (φ y)) fs)) row-least))
       (sum-into n n φ (λ y. count (joins directed y y) fs) (λ x. count (joins directed x x) es) into apart (λ x l. least x x l l))
       ∙ sym moved
 
   pub counts-kept : (x y : ℕ) → x < n → y < n → count (joins directed x y) es ≡ count (joins directed (φ x) (φ y)) fs
   counts-kept x y l k =
       sum-tight n (λ y. count (joins directed x y) es) (λ y. count (joins directed (φ x) (φ y)) fs) (λ y k. least x y l k)
-      (sum-tight n (λ x. sum n (λ y. count (joins directed x y) es)) (λ x. sum n (λ y. count (joins directed (φ x) (φ y)) fs)) row-least all-equal x l)
+      (sum-tight n (λ x. sum n (λ y. count (joins directed x y) es))
+      (λ x. sum n (λ y. count (joins directed (φ x) (φ y)) fs)) row-least all-equal x l)
       y k

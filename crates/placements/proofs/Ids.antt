@@ -87,7 +87,10 @@ module _ (s : Settings) (g₀ g₁ : Graph) (files : OfOneKind g₀ g₁) where
         (λ v h l.
         let i : v < nodes g₁ = omega arith in
         let w = place v order₁ in
-        let here = eqb-true (imageIn t path w) (onPositions s g₀ g₁ φ w) (all-elim (λ w. eqb (imageIn t path w) (onPositions s g₀ g₁ φ w)) (nodes (t .graph₁)) 0 e w (omega arith) (omega (arith, ways₁ .to-below v i))) in
+        let here =
+        eqb-true (imageIn t path w) (onPositions s g₀ g₁ φ w)
+        (all-elim (λ w. eqb (imageIn t path w) (onPositions s g₀ g₁ φ w)) (nodes (t .graph₁)) 0 e w (omega arith)
+        (omega (arith, ways₁ .to-below v i))) in
         eq-eqb (idImage s g₀ g₁ path v) (φ v)
         (ap (λ x. getD order₀ x 0) (here ∙ ap (λ x. place (φ x) order₀) (ways₁ .back-to v i)) ∙ ways₀ .back-to (φ v) (p .within v i)))
 
@@ -97,8 +100,11 @@ module _ (s : Settings) (g₀ g₁ : Graph) (files : OfOneKind g₀ g₁) where
         (λ w h l.
         let i : w < nodes (t .graph₁) = omega arith in
         let v = getD order₁ w 0 in
-        let here = eqb-true (idImage s g₀ g₁ path v) (φ v) (all-elim (λ v. eqb (idImage s g₀ g₁ path v) (φ v)) (nodes g₁) 0 e v (omega arith) (omega (arith, ways₁ .back-below w i))) in
-        let place-is : getD order₀ (imageIn t path w) 0 ≡ φ v = ap (λ x. getD order₀ (imageIn t path x) 0) (sym (ways₁ .to-back w i)) ∙ here in
+        let here =
+        eqb-true (idImage s g₀ g₁ path v) (φ v)
+        (all-elim (λ v. eqb (idImage s g₀ g₁ path v) (φ v)) (nodes g₁) 0 e v (omega arith) (omega (arith, ways₁ .back-below w i))) in
+        let place-is : getD order₀ (imageIn t path w) 0 ≡ φ v =
+        ap (λ x. getD order₀ (imageIn t path x) 0) (sym (ways₁ .to-back w i)) ∙ here in
         eq-eqb (imageIn t path w) (onPositions s g₀ g₁ φ w)
         (sym (ways₀ .to-back (imageIn t path w) (q .within w i)) ∙ ap (λ x. place x order₀) place-is))
 
@@ -109,11 +115,15 @@ module _ (s : Settings) (g₀ g₁ : Graph) (files : OfOneKind g₀ g₁) where
         let k = renumbered-placements s g₀ g₁ files in
         record {
           pairs = pairs-show;
-          all-place = each-map (λ path. (whole t path ≡ true) × Places t (imageIn t path)) (λ path. Placement s g₀ g₁ (idImage s g₀ g₁ path)) (listed t)
+          all-place =
+              each-map (λ path. (whole t path ≡ true) × Places t (imageIn t path)) (λ path. Placement s g₀ g₁ (idImage s g₀ g₁ path))
+              (listed t)
               (λ path m. k .to-ids (imageIn t path) (m .1)) (all-placed t (k .sound));
           each-once = λ φ p.
-              count-each (λ path. (whole t path ≡ true) × Places t (imageIn t path)) (showsIds s g₀ g₁ φ) (shows t (onPositions s g₀ g₁ φ)) (listed t) (all-placed t (k .sound))
-              (λ path m. by-iff (showsIds s g₀ g₁ φ path) (shows t (onPositions s g₀ g₁ φ) path) (where-ids φ p path (m .1)) (ids-where φ p path (m .1)))
+              count-each (λ path. (whole t path ≡ true) × Places t (imageIn t path)) (showsIds s g₀ g₁ φ) (shows t (onPositions s g₀ g₁ φ))
+              (listed t) (all-placed t (k .sound))
+              (λ path m. by-iff (showsIds s g₀ g₁ φ path) (shows t (onPositions s g₀ g₁ φ) path) (where-ids φ p path (m .1))
+              (ids-where φ p path (m .1)))
               ∙ listed-once t (onPositions s g₀ g₁ φ) (k .sound) (k .counts ∙ agreed) (k .to-positions φ p);
           found-places = λ b r e f. k .to-ids (imageIn t (continue t b r .record′ .path)) (every-map-places t (k .sound) b r e f);
         }
@@ -137,12 +147,15 @@ pub symmetries-listed : (s : Settings) → SymmetriesListed s
 symmetries-listed s =
     record {
       identity-listed = λ g file.
-          listing-of-ids s g g (record { accepted₀ = file; accepted₁ = file; same-kind = refl }) (and-intro (agree-own (s .greater) (nodes g)) (agree-own (s .greater) (length (g .edges))))
+          listing-of-ids s g g (record { accepted₀ = file; accepted₁ = file; same-kind = refl })
+          (and-intro (agree-own (s .greater) (nodes g)) (agree-own (s .greater) (length (g .edges))))
           .each-once (λ a. a) (identity s g);
       chain-listed = λ g₀ g₁ g₂ φ ψ f h a b p q.
-          listing-of-ids s g₀ g₂ (record { accepted₀ = f .accepted₀; accepted₁ = h .accepted₁; same-kind = h .same-kind ∙ f .same-kind }) (counts-chained s g₀ g₁ g₂ a b)
+          listing-of-ids s g₀ g₂ (record { accepted₀ = f .accepted₀; accepted₁ = h .accepted₁; same-kind = h .same-kind ∙ f .same-kind })
+          (counts-chained s g₀ g₁ g₂ a b)
           .each-once (λ a. φ (ψ a)) (chained s g₀ g₁ g₂ φ ψ p q);
       reverse-listed = λ g₀ g₁ φ e f a p.
-          listing-of-ids s g₁ g₀ (record { accepted₀ = f .accepted₁; accepted₁ = f .accepted₀; same-kind = sym (f .same-kind) }) (counts-back s g₀ g₁ e a)
+          listing-of-ids s g₁ g₀ (record { accepted₀ = f .accepted₁; accepted₁ = f .accepted₀; same-kind = sym (f .same-kind) })
+          (counts-back s g₀ g₁ e a)
           .each-once (reverse (nodes g₁) φ) (reversed s g₀ g₁ φ e f a p .is-placement);
     }

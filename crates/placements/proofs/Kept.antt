@@ -28,7 +28,8 @@ equal-nodes s g₀ g₁ c e =
 pub equal-edges : (s : Settings) (g₀ g₁ : Graph) → graphsAgree s g₀ g₁ ≡ true → s .greater ≡ false → length (g₀ .edges) ≡ length (g₁ .edges)
 equal-edges s g₀ g₁ c e =
     let h : (eqb (nodes g₀) (nodes g₁) && eqb (length (g₀ .edges)) (length (g₁ .edges))) ≡ true = rw e at c in
-    eqb-true (length (g₀ .edges)) (length (g₁ .edges)) (and-right (eqb (nodes g₀) (nodes g₁)) (eqb (length (g₀ .edges)) (length (g₁ .edges))) h)
+    eqb-true (length (g₀ .edges)) (length (g₁ .edges))
+    (and-right (eqb (nodes g₀) (nodes g₁)) (eqb (length (g₀ .edges)) (length (g₁ .edges))) h)
 
 -- what φ keeps of two graphs, one way of the edges
 pub record Keeps (s : Settings) (φ : ℕ → ℕ) (g₀ g₁ : Graph) : Type 0 where
@@ -37,8 +38,10 @@ pub record Keeps (s : Settings) (φ : ℕ → ℕ) (g₀ g₁ : Graph) : Type 0 
   pub least : (x y : ℕ) → x < nodes g₁ → y < nodes g₁ → between g₁ x y ≤ between g₀ (φ x) (φ y)
   pub induced : s .induced ≡ true → (x y : ℕ) → x < nodes g₁ → y < nodes g₁ → between g₁ x y ≡ between g₀ (φ x) (φ y)
   pub equal : s .greater ≡ false → (x y : ℕ) → x < nodes g₁ → y < nodes g₁ → between g₁ x y ≡ between g₀ (φ x) (φ y)
-  pub label-least : s .edgeLabels ≡ true → (l x y : ℕ) → x < nodes g₁ → y < nodes g₁ → labelledBetween g₁ l x y ≤ labelledBetween g₀ l (φ x) (φ y)
-  pub label-induced : s .edgeLabels ≡ true → s .induced ≡ true → (l x y : ℕ) → x < nodes g₁ → y < nodes g₁ → labelledBetween g₁ l x y ≡ labelledBetween g₀ l (φ x) (φ y)
+  pub label-least : s .edgeLabels ≡ true → (l x y : ℕ) → x < nodes g₁ → y < nodes g₁
+      → labelledBetween g₁ l x y ≤ labelledBetween g₀ l (φ x) (φ y)
+  pub label-induced : s .edgeLabels ≡ true → s .induced ≡ true → (l x y : ℕ) → x < nodes g₁ → y < nodes g₁
+      → labelledBetween g₁ l x y ≡ labelledBetween g₀ l (φ x) (φ y)
 
 -- the same with the edges turned round
 pub keeps-turned : (s : Settings) (φ : ℕ → ℕ) (g₀ g₁ : Graph) → Keeps s φ g₀ g₁ → Keeps s φ (turned g₀) (turned g₁)
@@ -54,10 +57,12 @@ keeps-turned s φ g₀ g₁ k =
     }
 
 module _ (s : Settings) (g₀ g₁ : Graph) (φ : ℕ → ℕ) (p : Placement s g₀ g₁ φ) (files : OfOneKind g₀ g₁) where
-  labels-least : s .edgeLabels ≡ true → (l x y : ℕ) → x < nodes g₁ → y < nodes g₁ → labelledBetween g₁ l x y ≤ labelledBetween g₀ l (φ x) (φ y)
+  labels-least : s .edgeLabels ≡ true → (l x y : ℕ) → x < nodes g₁ → y < nodes g₁
+      → labelledBetween g₁ l x y ≤ labelledBetween g₀ l (φ x) (φ y)
   labels-least c l x y i j = rw (edges-compared s g₁ l x y c, edges-compared s g₀ l (φ x) (φ y) c) at (p .at-least x y l i j)
 
-  labels-induced : s .edgeLabels ≡ true → s .induced ≡ true → (l x y : ℕ) → x < nodes g₁ → y < nodes g₁ → labelledBetween g₁ l x y ≡ labelledBetween g₀ l (φ x) (φ y)
+  labels-induced : s .edgeLabels ≡ true → s .induced ≡ true → (l x y : ℕ) → x < nodes g₁ → y < nodes g₁
+      → labelledBetween g₁ l x y ≡ labelledBetween g₀ l (φ x) (φ y)
   labels-induced c e l x y i j = rw (edges-compared s g₁ l x y c, edges-compared s g₀ l (φ x) (φ y) c) at (p .equal e x y l i j)
 
   sum₁ : (x y : ℕ) → sum 64 (λ l. labelledBetween g₁ l x y) ≡ between g₁ x y

@@ -62,7 +62,8 @@ module _ (s : Settings) (g : Graph) (l a b : ℕ) where
 
   pub edges-not-compared : s .edgeLabels ≡ false → edgesOf s g l a b ≡ between g a b
   edges-not-compared c =
-      rw c (count-same (λ e. joins (g .directed) a b e && true) (joins (g .directed) a b) (g .edges) (λ e. and-true (joins (g .directed) a b e)))
+      rw c (count-same (λ e. joins (g .directed) a b e && true) (joins (g .directed) a b) (g .edges)
+      (λ e. and-true (joins (g .directed) a b e)))
 
 pub labelled-turned : (g : Graph) (l a b : ℕ) → labelledBetween (turned g) l a b ≡ labelledBetween g l b a
 labelled-turned g l a b = passing-turned (g .directed) (λ e. eqb (e .label) l) (g .edges) a b (λ e. refl)
@@ -97,7 +98,8 @@ passing-sum directed n a b (e ∷ es) h =
 pub labels-sum : (n : ℕ) (g : Graph) (a b : ℕ) → LabelsBelow n (g .edges) → sum n (λ l. labelledBetween g l a b) ≡ between g a b
 labels-sum n g a b h = passing-sum (g .directed) n a b (g .edges) h
 
-passing-none : (directed : Bool) (n l a b : ℕ) (es : List Edge) → LabelsBelow n es → n ≤ l → passing directed (λ e. eqb (e .label) l) es a b ≡ 0
+passing-none : (directed : Bool) (n l a b : ℕ) (es : List Edge) → LabelsBelow n es → n ≤ l
+    → passing directed (λ e. eqb (e .label) l) es a b ≡ 0
 passing-none directed n l a b [] h k = count-nil (λ e. joins directed a b e && eqb (e .label) l)
 passing-none directed n l a b (e ∷ es) h k =
     let away : (l ≡ e .label → ⊥) = λ z. omega (arith, h .0) in

@@ -44,7 +44,8 @@ none-limit : {C : Type 0} (t : Task) (o : Option (Answer t)) → o ≡ some None
 none-limit t o e f = absurd (let z : _≡_ {A = ℕ} 0 1 = cc in omega arith)
 
 module _ (t : Task) where
-  traced : {s m : ℕ} {o : List (List ℕ)} {end : List ℕ} {last : Top} → Search t [] Outer s m o end last → Comes (unlimited t) refl started s m o end last
+  traced : {s m : ℕ} {o : List (List ℕ)} {end : List ℕ} {last : Top} → Search t [] Outer s m o end last
+      → Comes (unlimited t) refl started s m o end last
   traced x = comes (unlimited t) refl (search-unlimited t x) 0
 
   from-start : LimitMost t → (budgets : List ℕ) (w : Called t) → Ends t budgets [] 0 w → FromStart t w
@@ -87,7 +88,8 @@ module _ (t : Task) where
       }
 
   -- without more accepted pairs than the limit
-  within-limit : (limit c : ℕ) → t .settings .limit ≡ some limit → limit ≤ 4294967294 → above t (t .settings .limit) (min c 4294967295) ≡ false → c ≤ limit
+  within-limit : (limit c : ℕ) → t .settings .limit ≡ some limit → limit ≤ 4294967294
+      → above t (t .settings .limit) (min c 4294967295) ≡ false → c ≤ limit
   within-limit limit c l most v = let x = ltb-false limit (min c 4294967295) (rw l at v) in omega arith
 
   same-limit : {a b : ℕ} → t .settings .limit ≡ some a → t .settings .limit ≡ some b → a ≡ b
@@ -99,7 +101,8 @@ module _ (t : Task) where
       λ i. record { maps = a i; steps = b i; ending = c i; record′ = record { path = d i; top = e i; accepted = f i } }
 
   -- the limit is exceeded only once
-  exceeded-once : (r q : Record) (done others : List (List ℕ)) (s z c d : ℕ) → Exceeded t r done s c → Exceeded t q others z d → z ≤ s → s ≡ z
+  exceeded-once : (r q : Record) (done others : List (List ℕ)) (s z c d : ℕ) → Exceeded t r done s c → Exceeded t q others z d → z ≤ s
+      → s ≡ z
   exceeded-once r q done others s z c d x y l =
       let u = unlimited t in
       let limit = same-limit (x .limited) (y .limited) in
@@ -138,15 +141,19 @@ module _ (t : Task) where
   alike most budgets others w v (ends-none o d e p q k l) (ends-none o′ d′ e′ p′ q′ k′ l′) a b i j =
       same-called w v (d ∙ sym d′) (omega arith) (o ∙ sym o′) (p ∙ sym p′) (q ∙ sym q′) (k ∙ sym k′)
   alike most budgets others w v (ends-none o d e p q k l) (ends-limit x s c y z) a b i j =
-      absurd (omega (arith, within-limit (y .limit) (acceptedOf t) (y .limited) (most (y .limit) (y .limited)) (rw k at l), y .pairs-most, y .pair-here))
+      absurd (omega
+      (arith, within-limit (y .limit) (acceptedOf t) (y .limited) (most (y .limit) (y .limited)) (rw k at l), y .pairs-most, y .pair-here))
   alike most budgets others w v (ends-limit x s c y z) (ends-open o s′ c′ p e h) a b i j = none-some (v .ending) b o j
   alike most budgets others w v (ends-limit x s c y z) (ends-none o d e p q k l) a b i j =
-      absurd (omega (arith, within-limit (y .limit) (acceptedOf t) (y .limited) (most (y .limit) (y .limited)) (rw k at l), y .pairs-most, y .pair-here))
-  alike most budgets others w v (ends-limit x s c y z) (ends-limit x′ s′ c′ y′ z′) a b i j = alike-limits budgets others w v s s′ c c′ x x′ y y′ z z′
+      absurd (omega
+      (arith, within-limit (y .limit) (acceptedOf t) (y .limited) (most (y .limit) (y .limited)) (rw k at l), y .pairs-most, y .pair-here))
+  alike most budgets others w v (ends-limit x s c y z) (ends-limit x′ s′ c′ y′ z′) a b i j =
+      alike-limits budgets others w v s s′ c c′ x x′ y y′ z z′
 
   -- calls that have ended
   module _ (budgets : List ℕ) (w : Called t) where
-    open-until : Ends t budgets [] 0 w → AtLeastOne budgets → stepsOf t < length budgets → {C : Type 0} → (w .ending ≡ some None → C) → (w .ending ≡ some Limit → C) → C
+    open-until : Ends t budgets [] 0 w → AtLeastOne budgets → stepsOf t < length budgets → {C : Type 0} → (w .ending ≡ some None → C)
+        → (w .ending ≡ some Limit → C) → C
     open-until (ends-open o s c p e h) one more f g = absurd (omega (arith, h one, p .steps-sum))
     open-until (ends-none o d e p q k l) one more f g = f o
     open-until (ends-limit o s c p e) one more f g = g o
@@ -156,7 +163,8 @@ module _ (t : Task) where
     whole-none (ends-none o d e p q k l) i = (d, omega arith)
     whole-none (ends-limit o s c p e) i = none-limit t (w .ending) i o
 
-    free-ending : t .settings .limit ≡ none → Ends t budgets [] 0 w → (a : Answer t) → w .ending ≡ some a → (a ≡ None) × (w .maps ≡ listed t) × (w .steps ≡ stepsOf t)
+    free-ending : t .settings .limit ≡ none → Ends t budgets [] 0 w → (a : Answer t) → w .ending ≡ some a
+        → (a ≡ None) × (w .maps ≡ listed t) × (w .steps ≡ stepsOf t)
     free-ending free (ends-open o s c p e h) a i = none-some (w .ending) a o i
     free-ending free (ends-none o d e p q k l) a i = (cc, d, omega arith)
     free-ending free (ends-limit o s c p e) a i = none-some (t .settings .limit) (p .limit) free (p .limited)
@@ -168,8 +176,13 @@ module _ (t : Task) where
       cut-limit (ends-none o d e p q k l) i = none-limit t (w .ending) o i
       cut-limit (ends-limit o s c p e) i =
           let same = same-limit (p .limited) limited in
-          let here = p .step-here in
-          (p .steps-before, omega arith, traced (p .before) .accepted-is ∙ same, (rw here at (traced (p .made) .accepted-is)) ∙ p .pair-here ∙ ap suc same)
+          let here = p .step-here in (
+            p .steps-before,
+            omega arith,
+            traced (p .before) .accepted-is ∙ same,
+            (rw here at (traced (p .made) .accepted-is)) ∙ p .pair-here
+                ∙ ap suc same,
+          )
 
       limited-ending : Ends t budgets [] 0 w → (a : Answer t) → w .ending ≡ some a → a ≡ cond (ltb limit (acceptedOf t)) Limit None
       limited-ending (ends-open o s c p e h) a i = none-some (w .ending) a o i
@@ -203,7 +216,8 @@ module _ (t : Task) (agreed : countsAgree t ≡ true) (most : LimitMost t) where
 
   pub budgets-alike : BudgetsAlike t
   budgets-alike budgets others =
-      alike t most budgets others (calls t budgets started) (calls t others started) (calls-end t most agreed budgets) (calls-end t most agreed others)
+      alike t most budgets others (calls t budgets started) (calls t others started) (calls-end t most agreed budgets)
+      (calls-end t most agreed others)
 
   module _ (budgets : List ℕ) where
     abbrev called : Called t
@@ -235,7 +249,8 @@ pub limited : (t : Task) (limit : ℕ) → countsAgree t ≡ true → t .setting
 limited t limit agreed l small =
     let most : LimitMost t = λ other e. let same = same-limit t e l in omega arith in
     let ends : (budgets : List ℕ) → Ends t budgets [] 0 (calls t budgets started) = calls-end t most agreed in
-    let comes : (budgets : List ℕ) (a : Answer t) → calls t budgets started .ending ≡ some a → a ≡ cond (ltb limit (acceptedOf t)) Limit None =
+    let comes : (budgets : List ℕ) (a : Answer t) → calls t budgets started .ending ≡ some a → a ≡ cond
+    (ltb limit (acceptedOf t)) Limit None =
     λ budgets. limited-ending t budgets (calls t budgets started) limit l small (ends budgets) in
     record {
       calls-first = first-calls t agreed most;

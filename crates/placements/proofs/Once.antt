@@ -35,28 +35,41 @@ each-append : {A : Type 0} (P : A → Type 0) (xs ys : List A) → Each P xs →
 each-append P [] ys e f = f
 each-append P (x ∷ xs) ys e f = (e .0, each-append P xs ys (e .1) f)
 
-each-joined : (P : List ℕ → Type 0) (f : ℕ → List (List ℕ)) (xs : List ℕ) → ((x : ℕ) → member x xs ≡ true → Each P (f x)) → Each P (joined f xs)
+each-joined : (P : List ℕ → Type 0) (f : ℕ → List (List ℕ)) (xs : List ℕ) → ((x : ℕ) → member x xs ≡ true → Each P (f x))
+    → Each P (joined f xs)
 each-joined P f [] h = rw (joined-nil f) tt
 each-joined P f (x ∷ xs) h =
-    rw (joined-cons f x xs) (each-append P (f x) (joined f xs) (h x (member-head x xs)) (each-joined P f xs (λ y m. h y (member-tail y x xs m))))
+    rw (joined-cons f x xs)
+    (each-append P (f x) (joined f xs) (h x (member-head x xs)) (each-joined P f xs (λ y m. h y (member-tail y x xs m))))
 
-pub count-each : {A : Type 0} (P : A → Type 0) (p q : A → Bool) (xs : List A) → Each P xs → ((x : A) → P x → p x ≡ q x) → count p xs ≡ count q xs
+pub count-each : {A : Type 0} (P : A → Type 0) (p q : A → Bool) (xs : List A) → Each P xs → ((x : A) → P x → p x ≡ q x)
+    → count p xs ≡ count q xs
 count-each P p q [] e h = count-nil p ∙ sym (count-nil q)
 count-each P p q (x ∷ xs) e h = rw (count-cons p x xs, count-cons q x xs, h x (e .0), count-each P p q xs (e .1) h)
 
 -- of lists that are joined, those of which one holds a passing element
-count-joined : (p : List ℕ → Bool) (f : ℕ → List (List ℕ)) (q : ℕ → Bool) (xs : List ℕ) → ((x : ℕ) → member x xs ≡ true → count p (f x) ≡ cond (q x) 1 0)
+count-joined : (p : List ℕ → Bool) (f : ℕ → List (List ℕ)) (q : ℕ → Bool) (xs : List ℕ)
+    → ((x : ℕ) → member x xs ≡ true → count p (f x) ≡ cond (q x) 1 0)
     → count p (joined f xs) ≡ count q xs
 count-joined p f q [] h = rw (joined-nil f) (count-nil p ∙ sym (count-nil q))
 count-joined p f q (x ∷ xs) h =
-    rw (joined-cons f x xs, count-append p (f x) (joined f xs), count-cons q x xs, h x (member-head x xs), count-joined p f q xs (λ y m. h y (member-tail y x xs m)))
+    rw (
+      joined-cons f x xs,
+      count-append p (f x) (joined f xs),
+      count-cons q x xs,
+      h x (member-head x xs),
+      count-joined p f q xs
+          (λ y m. h y (member-tail y x xs m)),
+    )
 
 count-keep : {A : Type 0} (p q : A → Bool) (xs : List A) → count q (keep p xs) ≡ count (λ x. q x && p x) xs
 count-keep p q [] = rw (keep-nil p) (count-nil q ∙ sym (count-nil (λ x. q x && p x)))
 count-keep p q (x ∷ xs) =
     case (p x)
-    (λ e. rw (keep-true p x xs e, count-cons q x (keep p xs), count-cons (λ x. q x && p x) x xs, count-keep p q xs, e) (case (q x) (λ h. rw h) (λ h. rw h)))
-    (λ e. rw (keep-false p x xs e, count-cons (λ x. q x && p x) x xs, count-keep p q xs, e) (case (q x) (λ h. rw h (omega arith)) (λ h. rw h (omega arith))))
+    (λ e. rw (keep-true p x xs e, count-cons q x (keep p xs), count-cons (λ x. q x && p x) x xs, count-keep p q xs, e)
+    (case (q x) (λ h. rw h) (λ h. rw h)))
+    (λ e. rw (keep-false p x xs e, count-cons (λ x. q x && p x) x xs, count-keep p q xs, e)
+    (case (q x) (λ h. rw h (omega arith)) (λ h. rw h (omega arith))))
 
 count-nowhere : (q : ℕ → Bool) (xs : List ℕ) → ((x : ℕ) → q x ≡ false) → count q xs ≡ 0
 count-nowhere q [] h = count-nil q
@@ -65,7 +78,8 @@ count-nowhere q (x ∷ xs) h = rw (count-cons q x xs, h x, count-nowhere q xs h)
 -- the maps from a path on, by what is tried there
 module _ (t : Task) where
   pub maps-cases : {C : Type 0} (k : ℕ) (path : List ℕ)
-      → (mapsFrom t (suc k) path ≡ itself t path → tried t path ≡ [] → C) → (mapsFrom t (suc k) path ≡ joined (mapsAt t k path) (tried t path) → (tried t path ≡ [] → ⊥) → C) → C
+      → (mapsFrom t (suc k) path ≡ itself t path → tried t path ≡ [] → C)
+      → (mapsFrom t (suc k) path ≡ joined (mapsAt t k path) (tried t path) → (tried t path ≡ [] → ⊥) → C) → C
   maps-cases {C} k path f g = go (tried t path) refl (maps-more t k path)
     where
       go : (l : List ℕ) → tried t path ≡ l → mapsFrom t (suc k) path ≡ orItself t path l (joined (mapsAt t k path) (tried t path)) → C
@@ -112,18 +126,24 @@ module _ (t : Task) where
     lies-shorter x path e = and-right (eqb x (φ (nodeOf (candidateAt t path)))) _ (sym (lies-cons x path) ∙ e)
 
     lies-image : (x : ℕ) (path : List ℕ) → lies (x ∷ path) ≡ true → x ≡ φ (nodeOf (candidateAt t path))
-    lies-image x path e = eqb-true x (φ (nodeOf (candidateAt t path))) (and-left (eqb x (φ (nodeOf (candidateAt t path)))) _ (sym (lies-cons x path) ∙ e))
+    lies-image x path e =
+        eqb-true x (φ (nodeOf (candidateAt t path))) (and-left (eqb x (φ (nodeOf (candidateAt t path)))) _ (sym (lies-cons x path) ∙ e))
 
     lies-along : (path : List ℕ) → acceptedPath t path ≡ true → lies path ≡ true → Along (OnImage φ (nodes (t .graph₁))) (pairsOf t path)
     lies-along [] a e = rw (pairs-nil t) tt
     lies-along (x ∷ path) a e =
         rw (pairs-cons t x path) (
-          (lies-image x path e, offered-cases t path x (accepted-offered t x path a) (λ c h l i. rw h (candidate-node₁ t (pairsOf t path) c h .1))),
+          (
+            lies-image x path e,
+            offered-cases t path x (accepted-offered t x path a)
+                (λ c h l i. rw h (candidate-node₁ t (pairsOf t path) c h .1)),
+          ),
           lies-along path (accepted-shorter t x path a) (lies-shorter x path e),
         )
 
     -- seen at the images
-    along-lies : (path : List ℕ) → acceptedPath t path ≡ true → ((x y : ℕ) → partner (exchanged (pairsOf t path)) y ≡ some x → x ≡ φ y) → lies path ≡ true
+    along-lies : (path : List ℕ) → acceptedPath t path ≡ true → ((x y : ℕ) → partner (exchanged (pairsOf t path)) y ≡ some x → x ≡ φ y)
+        → lies path ≡ true
     along-lies [] a h = lies-nil
     along-lies (x ∷ path) a h =
         let b = nodeOf (candidateAt t path) in
@@ -152,7 +172,8 @@ module _ (t : Task) where
         (λ w h l.
         let below : w < n = omega arith in
         eq-eqb (imageIn t path w) (φ w)
-        (partner-along (Flipped (OnImage φ n)) qs (along-exchanged (OnImage φ n) (pairsOf t path) (lies-along path (m .map-accepted) e)) w (imageIn t path w) (at-image w below) .0)))
+        (partner-along (Flipped (OnImage φ n)) qs (along-exchanged (OnImage φ n) (pairsOf t path) (lies-along path (m .map-accepted) e)) w
+        (imageIn t path w) (at-image w below) .0)))
 
     module _ (sound : Sound t) (agreed : countsAgree t ≡ true) (p : Places t φ) where
       -- a path along φ that is not whole has a candidate
@@ -169,12 +190,14 @@ module _ (t : Task) where
             depth₁ t path a,
             long₁ t path,
             from-length 0 n,
-            distinct-among n (from 0 n) us (distinct-from n n 0 (omega arith)) (distinct₁ t path a) (λ v m. let i = member-from n 0 v m in h v (omega arith)),
+            distinct-among n (from 0 n) us (distinct-from n n 0 (omega arith)) (distinct₁ t path a)
+                (λ v m. let i = member-from n 0 v m in h v (omega arith)),
           ) in
           option-case (candidateAt t path)
           (λ h. candidate-none t ps h
           (λ none-left. absurd (full (λ x l.
-          sym (placed-alike t φ sound agreed p ps (lies-along path a e) x l) ∙ not-not (member (φ x) (mapped ps)) (none-left (φ x) (p .within x l)))))
+          sym (placed-alike t φ sound agreed p ps (lies-along path a e) x l) ∙ not-not (member (φ x) (mapped ps))
+          (none-left (φ x) (p .within x l)))))
           (λ none-left. absurd (full (λ x l. not-not (member x us) (none-left x l)))))
           f
         where
@@ -183,13 +206,15 @@ module _ (t : Task) where
           not-not false h = sym h
 
       -- the image of the candidate's node is tried
-      image-tried : (path : List ℕ) → acceptedPath t path ≡ true → lies path ≡ true → (c : Candidate) → candidateAt t path ≡ some c → offered t path (φ (c .node₁)) ≡ true
+      image-tried : (path : List ℕ) → acceptedPath t path ≡ true → lies path ≡ true → (c : Candidate) → candidateAt t path ≡ some c
+          → offered t path (φ (c .node₁)) ≡ true
       image-tried path a e c h =
           let w = candidate-node₁ t (pairsOf t path) c h in
           offered-by t path c (φ (c .node₁)) h (p .within (c .node₁) (w .1))
           (placed-in-list t φ sound agreed p (pairsOf t path) (lies-along path a e) (c .list) (c .node₁) (w .1) (w .0))
 
-      one-tried : (path : List ℕ) → acceptedPath t path ≡ true → lies path ≡ true → whole t path ≡ false → count (λ x. lies (x ∷ path)) (tried t path) ≡ 1
+      one-tried : (path : List ℕ) → acceptedPath t path ≡ true → lies path ≡ true → whole t path ≡ false
+          → count (λ x. lies (x ∷ path)) (tried t path) ≡ 1
       unfolding tried
       one-tried path a e w =
           goes-on path a e w
@@ -197,12 +222,15 @@ module _ (t : Task) where
           let y = φ (c .node₁) in
           let named : nodeOf (candidateAt t path) ≡ c .node₁ = rw h in
           count-keep (offered t path) (λ x. lies (x ∷ path)) (from 0 (nodes (t .graph₀)))
-          ∙ count-only (λ x. lies (x ∷ path) && offered t path x) (nodes (t .graph₀)) y (p .within (c .node₁) (candidate-node₁ t (pairsOf t path) c h .1))
-          (and-intro (lies-cons y path ∙ and-intro (eq-eqb y (φ (nodeOf (candidateAt t path))) (ap φ (sym named))) e) (image-tried path a e c h))
+          ∙ count-only (λ x. lies (x ∷ path) && offered t path x) (nodes (t .graph₀)) y
+          (p .within (c .node₁) (candidate-node₁ t (pairsOf t path) c h .1))
+          (and-intro (lies-cons y path ∙ and-intro (eq-eqb y (φ (nodeOf (candidateAt t path))) (ap φ (sym named))) e)
+          (image-tried path a e c h))
           (λ x f. lies-image x path (and-left (lies (x ∷ path)) (offered t path x) f) ∙ ap φ named))
 
       -- and its pair acceptable
-      image-accepted : (path : List ℕ) (x : ℕ) → acceptedPath t path ≡ true → offered t path x ≡ true → lies (x ∷ path) ≡ true → accepts t path x ≡ true
+      image-accepted : (path : List ℕ) (x : ℕ) → acceptedPath t path ≡ true → offered t path x ≡ true → lies (x ∷ path) ≡ true
+          → accepts t path x ≡ true
       unfolding accepts
       image-accepted path x a o e =
           offered-cases t path x o
@@ -210,12 +238,14 @@ module _ (t : Task) where
           let named : nodeOf (candidateAt t path) ≡ c .node₁ = rw h in
           let w = candidate-node₁ t (pairsOf t path) c h in
           let z : x ≡ φ (c .node₁) = lies-image x path e ∙ ap φ named in
-          rw (named, z) (placed-acceptable t φ sound agreed p (pairsOf t path) (lies-along path a (lies-shorter x path e)) (c .node₁) (w .1)))
+          rw (named, z)
+          (placed-acceptable t φ sound agreed p (pairsOf t path) (lies-along path a (lies-shorter x path e)) (c .node₁) (w .1)))
 
       itself-once : (path : List ℕ) → whole t path ≡ true → count lies (itself t path) ≡ cond (lies path) 1 0
       itself-once path w = rw (w, count-cons lies path [], count-nil lies) (case (lies path) (λ e. rw e) (λ e. rw e))
 
-      maps-once : (k : ℕ) (path : List ℕ) → acceptedPath t path ≡ true → nodes (t .graph₁) ≤ k + length path → count lies (mapsFrom t k path) ≡ cond (lies path) 1 0
+      maps-once : (k : ℕ) (path : List ℕ) → acceptedPath t path ≡ true → nodes (t .graph₁) ≤ k + length path
+          → count lies (mapsFrom t k path) ≡ cond (lies path) 1 0
       maps-once zero path a h = rw (maps-last t path) (itself-once path (whole-at t path a (omega arith)))
       maps-once (suc k) path a h =
           maps-cases k path
@@ -223,18 +253,22 @@ module _ (t : Task) where
           (case (whole t path)
           (λ w. itself-once path w)
           (λ w. case (lies path)
-          (λ f. let one : count (λ x. lies (x ∷ path)) [] ≡ 1 = rw empty at (one-tried path a f w) in absurd (omega (arith, count-nil (λ x. lies (x ∷ path)))))
+          (λ f. let one : count (λ x. lies (x ∷ path)) [] ≡ 1 = rw empty at (one-tried path a f w) in absurd
+          (omega (arith, count-nil (λ x. lies (x ∷ path)))))
           (λ f. rw (w, f) (count-nil lies)))))
           (λ e some-tried. rw e
           (count-joined lies (mapsAt t k path) (λ x. lies (x ∷ path)) (tried t path)
           (λ x m. case (accepts t path x)
           (λ f. rw f (maps-once k (x ∷ path) (accepted-longer t x path a (tried-offered t path x m) f) (omega arith)))
-          (λ f. rw f (count-nil lies ∙ sym (rw (false-by (lies (x ∷ path)) (λ g. never (accepts t path x) (image-accepted path x a (tried-offered t path x m) g) f))))))
+          (λ f. rw f (count-nil lies ∙ sym
+          (rw (false-by (lies (x ∷ path)) (λ g. never (accepts t path x) (image-accepted path x a (tried-offered t path x m) g) f))))))
           ∙ case (lies path)
           (λ f. case (whole t path)
-          (λ w. absurd (some-tried (tried-none t path (no-candidate t path a (let z = eqb-true (length path) (nodes (t .graph₁)) w in omega arith)))))
+          (λ w. absurd (some-tried
+          (tried-none t path (no-candidate t path a (let z = eqb-true (length path) (nodes (t .graph₁)) w in omega arith)))))
           (λ w. rw f (one-tried path a f w)))
-          (λ f. rw f (count-nowhere (λ x. lies (x ∷ path)) (tried t path) (λ x. false-by (lies (x ∷ path)) (λ g. never (lies path) (lies-shorter x path g) f))))))
+          (λ f. rw f (count-nowhere (λ x. lies (x ∷ path)) (tried t path)
+          (λ x. false-by (lies (x ∷ path)) (λ g. never (lies path) (lies-shorter x path g) f))))))
 
       pub listed-once : count (shows t φ) (listed t) ≡ 1
       listed-once =

@@ -54,7 +54,8 @@ module _ (t : Task) (φ : ℕ → ℕ) where
     -- numbers at the nodes that pass two tests, of which φ carries the first into the second
     sums-agree : (f₀ f₁ : ℕ → ℕ) (p₀ p₁ : ℕ → Bool)
         → ((x : ℕ) → x < nodes g₁ → f₁ x ≤ f₀ (φ x)) → (greater ≡ false → (x : ℕ) → x < nodes g₁ → f₁ x ≡ f₀ (φ x))
-        → ((x : ℕ) → x < nodes g₁ → p₁ x ≡ true → p₀ (φ x) ≡ true) → (greater ≡ false → (x : ℕ) → x < nodes g₁ → p₀ (φ x) ≡ true → p₁ x ≡ true)
+        → ((x : ℕ) → x < nodes g₁ → p₁ x ≡ true → p₀ (φ x) ≡ true)
+        → (greater ≡ false → (x : ℕ) → x < nodes g₁ → p₀ (φ x) ≡ true → p₁ x ≡ true)
         → agree greater (sum (nodes g₀) (λ y. cond (p₀ y) (f₀ y) 0)) (sum (nodes g₁) (λ x. cond (p₁ x) (f₁ x) 0)) ≡ true
     sums-agree f₀ f₁ p₀ p₁ least equal to back =
         agree-intro greater _ _
@@ -69,8 +70,10 @@ module _ (t : Task) (φ : ℕ → ℕ) where
         (λ x l. rw (by-iff (p₀ (φ x)) (p₁ x) (back e x l) (to x l), equal e x l))))
 
     -- the entries of two walks
-    walks-agree : (h₀ h₁ : Graph) → nodes h₀ ≡ nodes g₀ → nodes h₁ ≡ nodes g₁ → Keeps (t .settings) φ h₀ h₁ → (b : ℕ) → b < nodes g₁ → (p₀ p₁ : ℕ → Bool)
-        → ((x : ℕ) → x < nodes g₁ → p₁ x ≡ true → p₀ (φ x) ≡ true) → (greater ≡ false → (x : ℕ) → x < nodes g₁ → p₀ (φ x) ≡ true → p₁ x ≡ true)
+    walks-agree : (h₀ h₁ : Graph) → nodes h₀ ≡ nodes g₀ → nodes h₁ ≡ nodes g₁ → Keeps (t .settings) φ h₀ h₁ → (b : ℕ) → b < nodes g₁
+        → (p₀ p₁ : ℕ → Bool)
+        → ((x : ℕ) → x < nodes g₁ → p₁ x ≡ true → p₀ (φ x) ≡ true)
+        → (greater ≡ false → (x : ℕ) → x < nodes g₁ → p₀ (φ x) ≡ true → p₁ x ≡ true)
         → agree greater (count p₀ (walk h₀ (φ b))) (count p₁ (walk h₁ b)) ≡ true
     walks-agree h₀ h₁ n₀ n₁ k b l p₀ p₁ to back =
         rw (walk-count (nodes g₀) h₀ (φ b) p₀ (rw n₀ at (k .within₀)), walk-count (nodes g₁) h₁ b p₁ (rw n₁ at (k .within₁)))
@@ -79,7 +82,8 @@ module _ (t : Task) (φ : ℕ → ℕ) where
 
     -- all nodes
     nodes-agree : (p₀ p₁ : ℕ → Bool)
-        → ((x : ℕ) → x < nodes g₁ → p₁ x ≡ true → p₀ (φ x) ≡ true) → (greater ≡ false → (x : ℕ) → x < nodes g₁ → p₀ (φ x) ≡ true → p₁ x ≡ true)
+        → ((x : ℕ) → x < nodes g₁ → p₁ x ≡ true → p₀ (φ x) ≡ true)
+        → (greater ≡ false → (x : ℕ) → x < nodes g₁ → p₀ (φ x) ≡ true → p₁ x ≡ true)
         → agree greater (count p₀ (from 0 (nodes g₀))) (count p₁ (from 0 (nodes g₁))) ≡ true
     nodes-agree p₀ p₁ to back =
         rw (count-sum p₀ (nodes g₀), count-sum p₁ (nodes g₁))
@@ -107,7 +111,8 @@ module _ (t : Task) (φ : ℕ → ℕ) where
 
       member-to : (x : ℕ) → x < nodes g₁ → member x us₁ ≡ true → member (φ x) us₀ ≡ true
       member-to x l e =
-          rw (exchanged-twice ps) at (member-along (Flipped Image) node-single (exchanged ps) (along-exchanged Image ps o) x (φ x) (refl, l) e)
+          rw (exchanged-twice ps) at
+          (member-along (Flipped Image) node-single (exchanged ps) (along-exchanged Image ps o) x (φ x) (refl, l) e)
 
       member-back : (x : ℕ) → x < nodes g₁ → member (φ x) us₀ ≡ true → member x us₁ ≡ true
       member-back x l e = member-along Image image-single ps o (φ x) x (refl, l) e
@@ -159,13 +164,16 @@ module _ (t : Task) (φ : ℕ → ℕ) where
       list-to Other x l e = free-to x l e
 
       list-back : Exact → (list : OpenList) (x : ℕ) → x < nodes g₁ → inList g₀ us₀ list (φ x) ≡ true → inList g₁ us₁ list x ≡ true
-      list-back exact Out x l e = and-intro (free-back x l (and-left (not (member (φ x) us₀)) _ e)) (first-back exact x l (and-right (not (member (φ x) us₀)) _ e))
-      list-back exact In x l e = and-intro (free-back x l (and-left (not (member (φ x) us₀)) _ e)) (second-back exact x l (and-right (not (member (φ x) us₀)) _ e))
+      list-back exact Out x l e =
+          and-intro (free-back x l (and-left (not (member (φ x) us₀)) _ e)) (first-back exact x l (and-right (not (member (φ x) us₀)) _ e))
+      list-back exact In x l e =
+          and-intro (free-back x l (and-left (not (member (φ x) us₀)) _ e)) (second-back exact x l (and-right (not (member (φ x) us₀)) _ e))
       list-back exact Other x l e = free-back x l e
 
       new-to : Exact → (x : ℕ) → x < nodes g₁ → isNew g₁ us₁ x ≡ true → isNew g₀ us₀ (φ x) ≡ true
       new-to exact x l e =
-          and-intro (not-carried (firstMark g₁ us₁ x) (firstMark g₀ us₀ (φ x)) (first-back exact x l) (and-left (not (firstMark g₁ us₁ x)) _ e))
+          and-intro (not-carried (firstMark g₁ us₁ x) (firstMark g₀ us₀ (φ x)) (first-back exact x l)
+          (and-left (not (firstMark g₁ us₁ x)) _ e))
           (not-carried (secondMark g₁ us₁ x) (secondMark g₀ us₀ (φ x)) (second-back exact x l) (and-right (not (firstMark g₁ us₁ x)) _ e))
 
       new-back : (x : ℕ) → x < nodes g₁ → isNew g₀ us₀ (φ x) ≡ true → isNew g₁ us₁ x ≡ true
@@ -250,7 +258,8 @@ module _ (t : Task) (φ : ℕ → ℕ) (sound : Sound t) (agreed : countsAgree t
   pub placed-alike : (x : ℕ) → x < nodes (t .graph₁) → member (φ x) (mapped ps) ≡ member x (mapped (exchanged ps))
   placed-alike = mapped-alike t φ (p .within) (p .apart) sizes (sound .same-kind) kept ps o
 
-  pub placed-in-list : (list : OpenList) (x : ℕ) → x < nodes (t .graph₁) → inList (t .graph₁) (mapped (exchanged ps)) list x ≡ true → inList (t .graph₀) (mapped ps) list (φ x) ≡ true
+  pub placed-in-list : (list : OpenList) (x : ℕ) → x < nodes (t .graph₁) → inList (t .graph₁) (mapped (exchanged ps)) list x ≡ true
+      → inList (t .graph₀) (mapped ps) list (φ x) ≡ true
   placed-in-list = list-to t φ (p .within) (p .apart) sizes (sound .same-kind) kept ps o
 
   pub placed-acceptable : (b : ℕ) → b < nodes (t .graph₁) → acceptable t ps (φ b) b ≡ true

@@ -17,10 +17,14 @@ use Rattle.rules.specs.Search.{pairsOf, candidateAt, nodeOf, accepts, offered, 
 use Rattle.placements.specs.Listed.{tried, whole}
 use Rattle.placements.proofs.Candidates.{list-unmapped, candidate-node₁, offered-cases, offered-never}
 
-distinct-append : (n : ℕ) (us vs : List ℕ) → Distinct n us → Distinct n vs → ((x : ℕ) → member x us ≡ true → member x vs ≡ false) → Distinct n (us ++ vs)
+distinct-append : (n : ℕ) (us vs : List ℕ) → Distinct n us → Distinct n vs → ((x : ℕ) → member x us ≡ true → member x vs ≡ false)
+    → Distinct n (us ++ vs)
 distinct-append n [] vs d e h = e
-distinct-append n (u ∷ us) vs d e h =
-    ((d .0 .0, rw (member-append u us vs, d .0 .1) (h u (member-head u us))), distinct-append n us vs (d .1) e (λ x m. h x (member-tail x u us m)))
+distinct-append n (u ∷ us) vs d e h = (
+  (d .0 .0, rw (member-append u us vs, d .0 .1) (h u (member-head u us))),
+  distinct-append n us vs (d .1) e
+      (λ x m. h x (member-tail x u us m)),
+)
 
 module _ (t : Task) where
   pub pairs-cons : (x : ℕ) (path : List ℕ) → pairsOf t (x ∷ path) ≡ (x, nodeOf (candidateAt t path)) ∷ pairsOf t path
@@ -53,19 +57,25 @@ module _ (t : Task) where
   accepted-shorter x path e = and-left (acceptedPath t path) _ (sym (accepted-cons x path) ∙ e)
 
   pub accepted-offered : (x : ℕ) (path : List ℕ) → acceptedPath t (x ∷ path) ≡ true → offered t path x ≡ true
-  accepted-offered x path e = and-left (offered t path x) (accepts t path x) (and-right (acceptedPath t path) _ (sym (accepted-cons x path) ∙ e))
+  accepted-offered x path e =
+      and-left (offered t path x) (accepts t path x) (and-right (acceptedPath t path) _ (sym (accepted-cons x path) ∙ e))
 
   pub accepted-accepts : (x : ℕ) (path : List ℕ) → acceptedPath t (x ∷ path) ≡ true → accepts t path x ≡ true
-  accepted-accepts x path e = and-right (offered t path x) (accepts t path x) (and-right (acceptedPath t path) _ (sym (accepted-cons x path) ∙ e))
+  accepted-accepts x path e =
+      and-right (offered t path x) (accepts t path x) (and-right (acceptedPath t path) _ (sym (accepted-cons x path) ∙ e))
 
-  pub accepted-longer : (x : ℕ) (path : List ℕ) → acceptedPath t path ≡ true → offered t path x ≡ true → accepts t path x ≡ true → acceptedPath t (x ∷ path) ≡ true
+  pub accepted-longer : (x : ℕ) (path : List ℕ) → acceptedPath t path ≡ true → offered t path x ≡ true → accepts t path x ≡ true
+      → acceptedPath t (x ∷ path) ≡ true
   accepted-longer x path e f g = accepted-cons x path ∙ and-intro e (and-intro f g)
 
   pub distinct₀ : (path : List ℕ) → acceptedPath t path ≡ true → Distinct (nodes (t .graph₀)) (mapped (pairsOf t path))
   distinct₀ [] e = rw pairs-nil tt
   distinct₀ (x ∷ path) e =
-      rw (pairs-cons x path)
-      (offered-cases t path x (accepted-offered x path e) (λ c h l i. (l, list-unmapped (t .graph₀) (mapped (pairsOf t path)) (c .list) x i)), distinct₀ path (accepted-shorter x path e))
+      rw (pairs-cons x path) (
+        offered-cases t path x (accepted-offered x path e)
+            (λ c h l i. (l, list-unmapped (t .graph₀) (mapped (pairsOf t path)) (c .list) x i)),
+        distinct₀ path (accepted-shorter x path e),
+      )
 
   pub distinct₁ : (path : List ℕ) → acceptedPath t path ≡ true → Distinct (nodes (t .graph₁)) (mapped (exchanged (pairsOf t path)))
   distinct₁ [] e = rw pairs-nil tt
@@ -92,7 +102,9 @@ module _ (t : Task) where
 
   pub tried-distinct : (path : List ℕ) → Distinct (nodes (t .graph₀)) (tried t path)
   unfolding tried
-  tried-distinct path = distinct-keep (nodes (t .graph₀)) (offered t path) (from 0 (nodes (t .graph₀))) (distinct-from (nodes (t .graph₀)) (nodes (t .graph₀)) 0 (omega arith))
+  tried-distinct path =
+      distinct-keep (nodes (t .graph₀)) (offered t path) (from 0 (nodes (t .graph₀)))
+      (distinct-from (nodes (t .graph₀)) (nodes (t .graph₀)) 0 (omega arith))
 
   pub tried-few : (path : List ℕ) → acceptedPath t path ≡ true → length (tried t path) + length path ≤ nodes (t .graph₀)
   tried-few path e =
@@ -101,7 +113,8 @@ module _ (t : Task) where
       λ x m. offered-cases t path x (tried-offered path x m) (λ c h l i. list-unmapped (t .graph₀) us (c .list) x i) in
       omega (
         arith,
-        distinct-length (nodes (t .graph₀)) (tried t path ++ us) (distinct-append (nodes (t .graph₀)) (tried t path) us (tried-distinct path) (distinct₀ path e) apart),
+        distinct-length (nodes (t .graph₀)) (tried t path ++ us)
+            (distinct-append (nodes (t .graph₀)) (tried t path) us (tried-distinct path) (distinct₀ path e) apart),
         length-append (tried t path) us,
         long₀ path,
       )

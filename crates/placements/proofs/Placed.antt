@@ -50,7 +50,8 @@ mapped-partner ps x e f =
     f
 
 -- where no two have the same partner, a partner's partner is the node itself
-partner-back : (n : ℕ) (ps : Pairs) → Distinct n (mapped (exchanged ps)) → (x y : ℕ) → partner ps x ≡ some y → partner (exchanged ps) y ≡ some x
+partner-back : (n : ℕ) (ps : Pairs) → Distinct n (mapped (exchanged ps)) → (x y : ℕ) → partner ps x ≡ some y
+    → partner (exchanged ps) y ≡ some x
 partner-back n [] d x y e = none-some (partner [] x) y (partner-nil x) e
 partner-back n (p ∷ ps) d x y e =
     case (eqb x (p .0))
@@ -70,7 +71,8 @@ edges-least : (s : Settings) (g h : Graph) (ps : Pairs) (v w : ℕ) → Within (
 edges-least s g h ps v w within c m l x y i e =
     case (s .edgeLabels)
     (λ k. rw (edges-compared s g l v x k, edges-compared s h l w y k) (matches-elim g h ps v w within (m k) x y l i e))
-    (λ k. rw (edges-not-compared s g l v x k, edges-not-compared s h l w y k) (covers-elim (nodes g) (between g) (between h) (partner ((v, w) ∷ ps)) v w c x y i e))
+    (λ k. rw (edges-not-compared s g l v x k, edges-not-compared s h l w y k)
+    (covers-elim (nodes g) (between g) (between h) (partner ((v, w) ∷ ps)) v w c x y i e))
 
 -- this graph's edges among nodes with partners are no more than the other's among the partners
 abbrev Carries : Settings → Graph → Graph → Pairs → Type 0
@@ -81,9 +83,11 @@ pub record New (s : Settings) (g h : Graph) (ps : Pairs) (v w : ℕ) : Type 0 wh
   pub from-it : (l x y : ℕ) → x < nodes g → partner ((v, w) ∷ ps) x ≡ some y → edgesOf s g l v x ≤ edgesOf s h l w y
   pub into-it : (l x y : ℕ) → x < nodes g → partner ((v, w) ∷ ps) x ≡ some y → edgesOf s g l x v ≤ edgesOf s h l y w
 
-carries-more : (s : Settings) (g h : Graph) (ps : Pairs) (v w : ℕ) → Distinct (nodes g) (mapped ((v, w) ∷ ps)) → New s g h ps v w → Carries s g h ps → Carries s g h ((v, w) ∷ ps)
+carries-more : (s : Settings) (g h : Graph) (ps : Pairs) (v w : ℕ) → Distinct (nodes g) (mapped ((v, w) ∷ ps)) → New s g h ps v w
+    → Carries s g h ps → Carries s g h ((v, w) ∷ ps)
 carries-more s g h ps v w d new old l x y p q e f =
-    let below : (z r : ℕ) → partner ((v, w) ∷ ps) z ≡ some r → z < nodes g = λ z r i. distinct-below (nodes g) (mapped ((v, w) ∷ ps)) d z (partner-mapped ((v, w) ∷ ps) z r i) in
+    let below : (z r : ℕ) → partner ((v, w) ∷ ps) z ≡ some r → z < nodes g =
+    λ z r i. distinct-below (nodes g) (mapped ((v, w) ∷ ps)) d z (partner-mapped ((v, w) ∷ ps) z r i) in
     case (eqb x v)
     (λ a.
     let own : w ≡ p = cc (partner-own v w ps x a) in
@@ -123,7 +127,8 @@ module _ (t : Task) (sound : Sound t) where
     unfolding sameLabel
     labels-alike c =
         eqb-true (getD (g₀ .labels) a 0) (getD (g₁ .labels) b 0)
-        (implies-elim (s .nodeLabels) (eqb (getD (g₀ .labels) a 0) (getD (g₁ .labels) b 0)) (and-left (sameLabel t ps a b) (eachWay t ps a b (labelled t ps a b)) rest-feasible) c)
+        (implies-elim (s .nodeLabels) (eqb (getD (g₀ .labels) a 0) (getD (g₁ .labels) b 0))
+        (and-left (sameLabel t ps a b) (eachWay t ps a b (labelled t ps a b)) rest-feasible) c)
 
     -- one direction: graph 1 against graph 0, and graph 0 against graph 1 if induced
     module _ (h₀ h₁ : Graph) (within₀ : Within (nodes h₀) (h₀ .edges)) (within₁ : Within (nodes h₁) (h₁ .edges))
@@ -135,12 +140,15 @@ module _ (t : Task) (sound : Sound t) where
           (and-left (covers (nodes h₁) (between h₁) (between h₀) (partner ((b, a) ∷ exchanged ps)) b a) _ is-linked)
           (λ c. and-right (implies (s .induced) (matches h₀ h₁ ps a b)) _ (implies-elim (s .edgeLabels) _ is-labelled c))
 
-      searched-least : s .induced ≡ true → (l x y : ℕ) → x < nodes h₀ → partner ((a, b) ∷ ps) x ≡ some y → edgesOf s h₀ l a x ≤ edgesOf s h₁ l b y
+      searched-least : s .induced ≡ true → (l x y : ℕ) → x < nodes h₀ → partner ((a, b) ∷ ps) x ≡ some y
+          → edgesOf s h₀ l a x ≤ edgesOf s h₁ l b y
       unfolding linked labelled
       searched-least d =
           edges-least s h₀ h₁ ps a b within₀
-          (implies-elim (s .induced) _ (and-right (covers (nodes h₁) (between h₁) (between h₀) (partner ((b, a) ∷ exchanged ps)) b a) _ is-linked) d)
-          (λ c. implies-elim (s .induced) _ (and-left (implies (s .induced) (matches h₀ h₁ ps a b)) _ (implies-elim (s .edgeLabels) _ is-labelled c)) d)
+          (implies-elim (s .induced) _
+          (and-right (covers (nodes h₁) (between h₁) (between h₀) (partner ((b, a) ∷ exchanged ps)) b a) _ is-linked) d)
+          (λ c. implies-elim (s .induced) _
+          (and-left (implies (s .induced) (matches h₀ h₁ ps a b)) _ (implies-elim (s .edgeLabels) _ is-labelled c)) d)
 
     linked-out : linked t ps a b g₀ g₁ ≡ true
     linked-out = and-left (linked t ps a b g₀ g₁) _ linked-ways
@@ -166,7 +174,8 @@ module _ (t : Task) (sound : Sound t) where
         record {
           from-it = out;
           into-it = λ l x y i e. case (g₀ .directed)
-              (λ d. rw (edges-turned s g₁ l b x, edges-turned s g₀ l a y) at (sought-least (turned g₀) (turned g₁) turned₀ turned₁ (linked-in d) (labelled-in d) l x y i e))
+              (λ d. rw (edges-turned s g₁ l b x, edges-turned s g₀ l a y) at
+              (sought-least (turned g₀) (turned g₁) turned₀ turned₁ (linked-in d) (labelled-in d) l x y i e))
               (λ d. rw (edges-undirected s g₁ l x b (sound .same-kind ∙ d), edges-undirected s g₀ l y a d) (out l x y i e));
         }
 
@@ -176,12 +185,14 @@ module _ (t : Task) (sound : Sound t) where
         record {
           from-it = out;
           into-it = λ l x y i e. case (g₀ .directed)
-              (λ d. rw (edges-turned s g₀ l a x, edges-turned s g₁ l b y) at (searched-least (turned g₀) (turned g₁) turned₀ turned₁ (linked-in d) (labelled-in d) k l x y i e))
+              (λ d. rw (edges-turned s g₀ l a x, edges-turned s g₁ l b y) at
+              (searched-least (turned g₀) (turned g₁) turned₀ turned₁ (linked-in d) (labelled-in d) k l x y i e))
               (λ d. rw (edges-undirected s g₀ l x a d, edges-undirected s g₁ l y b (sound .same-kind ∙ d)) (out l x y i e));
         }
 
   -- along an accepted path
-  accepts-is : (x : ℕ) (path : List ℕ) → acceptedPath t (x ∷ path) ≡ true → acceptable t (pairsOf t path) x (nodeOf (candidateAt t path)) ≡ true
+  accepts-is : (x : ℕ) (path : List ℕ) → acceptedPath t (x ∷ path) ≡ true
+      → acceptable t (pairsOf t path) x (nodeOf (candidateAt t path)) ≡ true
   unfolding accepts
   accepts-is x path e = accepted-accepts t x path e
 
@@ -192,7 +203,8 @@ module _ (t : Task) (sound : Sound t) where
   carries₁ [] e = rw (pairs-nil t) (none-carries g₁ g₀)
   carries₁ (x ∷ path) e =
       rw (pairs-cons t x path)
-      (carries-more s g₁ g₀ (exchanged (pairsOf t path)) (nodeOf (candidateAt t path)) x (rw (pairs-cons t x path) at (distinct₁ t (x ∷ path) e))
+      (carries-more s g₁ g₀ (exchanged (pairsOf t path)) (nodeOf (candidateAt t path)) x
+      (rw (pairs-cons t x path) at (distinct₁ t (x ∷ path) e))
       (new₁ (pairsOf t path) x (nodeOf (candidateAt t path)) (accepts-is x path e)) (carries₁ path (accepted-shorter t x path e)))
 
   carries₀ : s .induced ≡ true → (path : List ℕ) → acceptedPath t path ≡ true → Carries s g₀ g₁ (pairsOf t path)
@@ -222,7 +234,8 @@ module _ (t : Task) (sound : Sound t) where
 
     image-back : (w : ℕ) → w < nodes g₁ → partner (pairsOf t path) (imageIn t path w) ≡ some w
     image-back w l =
-        let d : Distinct (nodes g₀) (mapped (exchanged (exchanged (pairsOf t path)))) = rw (exchanged-twice (pairsOf t path)) (distinct₀ t path accepted) in
+        let d : Distinct (nodes g₀) (mapped (exchanged (exchanged (pairsOf t path)))) =
+        rw (exchanged-twice (pairsOf t path)) (distinct₀ t path accepted) in
         rw (exchanged-twice (pairsOf t path)) at (partner-back (nodes g₀) (exchanged (pairsOf t path)) d w (imageIn t path w) (image w l))
 
     pub path-places : Places t (imageIn t path)
@@ -230,9 +243,13 @@ module _ (t : Task) (sound : Sound t) where
         let least : (a b l : ℕ) → a < nodes g₁ → b < nodes g₁ → edgesOf s g₁ l a b ≤ edgesOf s g₀ l (imageIn t path a) (imageIn t path b) =
         λ a b l i j. carries₁ path accepted l a b (imageIn t path a) (imageIn t path b) (image a i) (image b j) in
         record {
-          within = λ a i. distinct-below (nodes g₀) (mapped (pairsOf t path)) (distinct₀ t path accepted) (imageIn t path a) (partner-mapped (pairsOf t path) (imageIn t path a) a (image-back a i));
+          within = λ a i.
+              distinct-below (nodes g₀) (mapped (pairsOf t path)) (distinct₀ t path accepted) (imageIn t path a)
+              (partner-mapped (pairsOf t path) (imageIn t path a) a (image-back a i));
           apart = λ a b i j e. let p = image-back a i in let q = image-back b j in cc;
           labels-agree = λ c a i. partner-along Named (pairsOf t path) (names path accepted) (imageIn t path a) a (image-back a i) c;
           at-least = least;
-          equal = λ k a b l i j. le-antisymm (least a b l i j) (carries₀ k path accepted l (imageIn t path a) (imageIn t path b) a b (image-back a i) (image-back b j));
+          equal = λ k a b l i j.
+              le-antisymm (least a b l i j)
+              (carries₀ k path accepted l (imageIn t path a) (imageIn t path b) a b (image-back a i) (image-back b j));
         }

@@ -31,7 +31,8 @@ module _ (t : Task) where
     maps : List (List ℕ)
     search : Search t [] Outer s pairs maps path top
 
-  made-then : {path next : List ℕ} {top turn : Top} {s n m : ℕ} {o : List (List ℕ)} → Made path top s → Search t path top n m o next turn → Made next turn (s + n)
+  made-then : {path next : List ℕ} {top turn : Top} {s n m : ℕ} {o : List (List ℕ)} → Made path top s → Search t path top n m o next turn
+      → Made next turn (s + n)
   made-then {m} {o} x y = record { pairs = x .pairs + m; maps = x .maps ++ o; search = then t (x .search) y }
 
   made-in : {path : List ℕ} {top : Top} {s n : ℕ} → s ≡ n → Made path top s → Made path top n
@@ -53,13 +54,15 @@ module _ (t : Task) where
 
   module _ (k : ℕ) (path : List ℕ) (accepted : acceptedPath t path ≡ true) (deep : nodes (t .graph₁) ≤ suc k + length path) (c : Candidate) (e : candidateAt t path ≡ some c) where
     -- from a node that is tried to the next
-    past : (a : ℕ) (r : List ℕ) → offered t path a ≡ true → keep (inList₀ t (pairsOf t path) (c .list)) (from (suc a) (nodes (t .graph₀) - suc a)) ≡ r
+    past : (a : ℕ) (r : List ℕ) → offered t path a ≡ true
+        → keep (inList₀ t (pairsOf t path) (c .list)) (from (suc a) (nodes (t .graph₀) - suc a)) ≡ r
         → (s : ℕ) → Made path (Inner a) s → Made path (innerOr t (head r)) (s + stepsAt t k path a)
     past a r o h s made =
         rw (← onward-next t path c a r e h)
         (case (accepts t path a)
         (λ f.
-        let whole = below t path (onward t path a) k (a ∷ path) (accepted-longer t a path accepted o f) (omega arith) 1 0 [] (left nothing) in
+        let whole =
+        below t path (onward t path a) k (a ∷ path) (accepted-longer t a path accepted o f) (omega arith) 1 0 [] (left nothing) in
         let here : stepsAt t k path a ≡ suc (suc (stepsFrom t k (a ∷ path))) = rw f in
         made-in (omega arith) (made-then made (taken f whole)))
         (λ f.
@@ -78,9 +81,16 @@ module _ (t : Task) where
         let same : i + (n - i) - suc a ≡ n - suc a = omega (arith, first .1, first .2) in
         let others : keep p (from (suc a) (n - suc a)) ≡ r = rw same at (first .0) in
         member-cases x a r m
-        (λ z. rw z (record { steps = s; made = made; left-over = total (stepsAt t k path) r; sum = omega (arith, total-cons (stepsAt t k path) a r) }))
+        (λ z. rw z (record {
+          steps = s;
+          made = made;
+          left-over = total (stepsAt t k path) r;
+          sum = omega
+              (arith, total-cons (stepsAt t k path) a r);
+        }))
         (λ later.
-        tries-in (suc a) r others (λ y l. o y (member-tail y a r l)) (s + stepsAt t k path a) rest (past a r (o a (member-head a r)) others s made)
+        tries-in (suc a) r others (λ y l. o y (member-tail y a r l)) (s + stepsAt t k path a) rest
+        (past a r (o a (member-head a r)) others s made)
         (omega (arith, total-cons (stepsAt t k path) a r)) x later)
 
     tries : (g : Stage (suc k) path) (x : ℕ) → member x (tried t path) ≡ true → Tries k path x (g .rest)
@@ -90,15 +100,18 @@ module _ (t : Task) where
         let whole-run : n - 0 ≡ n = omega arith in
         let first : head (tried t path) ≡ some (c .node₀) = rw list (rw whole-run at (candidate-least t (pairsOf t path) c e .0)) in
         let made : Made path (innerOr t (head (tried t path))) (g .steps + 1) = rw first (made-then (g .made) (opened e nothing)) in
-        tries-in 0 (tried t path) (rw whole-run (sym list)) (tried-offered t path) (g .steps + 1) (g .rest) made (omega (arith, g .sum, steps-more t k path)) x m
+        tries-in 0 (tried t path) (rw whole-run (sym list)) (tried-offered t path) (g .steps + 1) (g .rest) made
+        (omega (arith, g .sum, steps-more t k path)) x m
 
   offered-tried : (path : List ℕ) (x : ℕ) → offered t path x ≡ true → member x (tried t path) ≡ true
   unfolding tried
   offered-tried path x o =
       offered-cases t path x o
-      (λ c e l h. member-kept (offered t path) x (from 0 (nodes (t .graph₀))) o (from-member (nodes (t .graph₀)) 0 x (omega arith) (omega arith)))
+      (λ c e l h. member-kept (offered t path) x (from 0 (nodes (t .graph₀))) o
+      (from-member (nodes (t .graph₀)) 0 x (omega arith) (omega arith)))
 
-  tries-at : (k : ℕ) (path : List ℕ) → acceptedPath t path ≡ true → nodes (t .graph₁) ≤ suc k + length path → (g : Stage (suc k) path) (x : ℕ) → offered t path x ≡ true → Tries k path x (g .rest)
+  tries-at : (k : ℕ) (path : List ℕ) → acceptedPath t path ≡ true → nodes (t .graph₁) ≤ suc k + length path
+      → (g : Stage (suc k) path) (x : ℕ) → offered t path x ≡ true → Tries k path x (g .rest)
   tries-at k path a deep g x o =
       offered-cases t path x o (λ c e l h. tries k path a deep c e g x (offered-tried path x o))
 
@@ -142,7 +155,8 @@ module _ (t : Task) where
       inner : (k : ℕ) → k + length path ≡ nodes (t .graph₁) → Passed path (Inner x)
       inner zero deep =
           offered-cases t path x o
-          (λ c e l h. let z : none ≡ some c = sym (no-candidate t path a (omega arith)) ∙ e in absurd (let w : _≡_ {A = ℕ} 0 1 = cc in omega arith))
+          (λ c e l h. let z : none ≡ some c = sym (no-candidate t path a (omega arith)) ∙ e in absurd
+          (let w : _≡_ {A = ℕ} 0 1 = cc in omega arith))
       inner (suc k) deep =
           let g = stage (suc k) path a deep in
           let y = tries-at k path a (omega arith) g x o in
@@ -172,7 +186,8 @@ module _ (t : Task) where
         passed-accepted = λ s.
             let r = after (unlimited t) s started in
             let g = after-good s started (start-good (unlimited t)) in
-            good-accepted t r (record { path-accepted = path-same (r .path) (g .path-accepted); top-offered = top-same (r .path) (r .top) (g .top-offered) });
+            good-accepted t r
+            (record { path-accepted = path-same (r .path) (g .path-accepted); top-offered = top-same (r .path) (r .top) (g .top-offered) });
         accepted-passed = λ r e.
             let g = accepted-good t r e in
             let p = passes (r .path) (r .top) (g .path-accepted) (g .top-offered) in

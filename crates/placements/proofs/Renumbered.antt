@@ -38,7 +38,8 @@ alike-back s g h to back k =
       back-to = k .to-back;
       to-back = k .back-to;
       same-label = λ w i. sym (k .same-label (back w) (k .back-below w i)) ∙ ap (λ v. getD (h .labels) v 0) (k .to-back w i);
-      same-edges = λ l a b i j. sym (rw (k .to-back a i, k .to-back b j) at (k .same-edges l (back a) (back b) (k .back-below a i) (k .back-below b j)));
+      same-edges = λ l a b i j.
+          sym (rw (k .to-back a i, k .to-back b j) at (k .same-edges l (back a) (back b) (k .back-below a i) (k .back-below b j)));
     }
 
 -- a placement in alike graphs
@@ -50,7 +51,8 @@ module _ (s : Settings) (g₀ h₀ g₁ h₁ : Graph) (to₀ back₀ to₁ back�
   edges₁ : (l a b : ℕ) → a < nodes h₁ → b < nodes h₁ → edgesOf s h₁ l a b ≡ edgesOf s g₁ l (back₁ a) (back₁ b)
   edges₁ l a b i j = sym (alike-back s g₁ h₁ to₁ back₁ k₁ .same-edges l a b i j)
 
-  edges₀ : (l a b : ℕ) → a < nodes h₁ → b < nodes h₁ → edgesOf s h₀ l (to₀ (φ (back₁ a))) (to₀ (φ (back₁ b))) ≡ edgesOf s g₀ l (φ (back₁ a)) (φ (back₁ b))
+  edges₀ : (l a b : ℕ) → a < nodes h₁ → b < nodes h₁
+      → edgesOf s h₀ l (to₀ (φ (back₁ a))) (to₀ (φ (back₁ b))) ≡ edgesOf s g₀ l (φ (back₁ a)) (φ (back₁ b))
   edges₀ l a b i j = k₀ .same-edges l (φ (back₁ a)) (φ (back₁ b)) (below a i) (below b j)
 
   carried : Placement s h₀ h₁ (λ w. to₀ (φ (back₁ w)))
@@ -58,12 +60,16 @@ module _ (s : Settings) (g₀ h₀ g₁ h₁ : Graph) (to₀ back₀ to₁ back�
       record {
         within = λ a i. k₀ .to-below (φ (back₁ a)) (below a i);
         apart = λ a b i j e.
-            let same : φ (back₁ a) ≡ φ (back₁ b) = sym (k₀ .back-to (φ (back₁ a)) (below a i)) ∙ ap back₀ e ∙ k₀ .back-to (φ (back₁ b)) (below b j) in
+            let same : φ (back₁ a) ≡ φ (back₁ b) =
+            sym (k₀ .back-to (φ (back₁ a)) (below a i)) ∙ ap back₀ e ∙ k₀ .back-to (φ (back₁ b)) (below b j) in
             sym (k₁ .to-back a i) ∙ ap to₁ (p .apart (back₁ a) (back₁ b) (k₁ .back-below a i) (k₁ .back-below b j) same) ∙ k₁ .to-back b j;
         labels-agree = λ c a i.
-            k₀ .same-label (φ (back₁ a)) (below a i) ∙ p .labels-agree c (back₁ a) (k₁ .back-below a i) ∙ alike-back s g₁ h₁ to₁ back₁ k₁ .same-label a i;
-        at-least = λ a b l i j. rw (edges₁ l a b i j, edges₀ l a b i j) (p .at-least (back₁ a) (back₁ b) l (k₁ .back-below a i) (k₁ .back-below b j));
-        equal = λ c a b l i j. rw (edges₁ l a b i j, edges₀ l a b i j) (p .equal c (back₁ a) (back₁ b) l (k₁ .back-below a i) (k₁ .back-below b j));
+            k₀ .same-label (φ (back₁ a)) (below a i) ∙ p .labels-agree c (back₁ a) (k₁ .back-below a i)
+            ∙ alike-back s g₁ h₁ to₁ back₁ k₁ .same-label a i;
+        at-least = λ a b l i j.
+            rw (edges₁ l a b i j, edges₀ l a b i j) (p .at-least (back₁ a) (back₁ b) l (k₁ .back-below a i) (k₁ .back-below b j));
+        equal = λ c a b l i j.
+            rw (edges₁ l a b i j, edges₀ l a b i j) (p .equal c (back₁ a) (back₁ b) l (k₁ .back-below a i) (k₁ .back-below b j));
       }
 
   -- carried there and back it is itself
@@ -78,19 +84,23 @@ module _ (s : Settings) (plusPlus : Bool) (g : Graph) (file : AcceptedFile g) wh
   long : length order ≡ nodes g
   long = order-holds-each-once plusPlus g .0
 
-  renumbered-edges : (l a b : ℕ) → a < nodes g → b < nodes g → edgesOf s (renumbered order g) l (place a order) (place b order) ≡ edgesOf s g l a b
+  renumbered-edges : (l a b : ℕ) → a < nodes g → b < nodes g
+      → edgesOf s (renumbered order g) l (place a order) (place b order) ≡ edgesOf s g l a b
   renumbered-edges l a b i j =
       let k = order-keeps-edges plusPlus g (file .edges-within) in
       case (s .edgeLabels)
-      (λ c. rw (edges-compared s (renumbered order g) l (place a order) (place b order) c, edges-compared s g l a b c) (k .labelled-edges l a b i j))
-      (λ c. rw (edges-not-compared s (renumbered order g) l (place a order) (place b order) c, edges-not-compared s g l a b c) (k .edges a b i j))
+      (λ c. rw (edges-compared s (renumbered order g) l (place a order) (place b order) c, edges-compared s g l a b c)
+      (k .labelled-edges l a b i j))
+      (λ c. rw (edges-not-compared s (renumbered order g) l (place a order) (place b order) c, edges-not-compared s g l a b c)
+      (k .edges a b i j))
 
   alike : Alike s g (renumbered order g) (λ v. place v order) (λ w. getD order w 0)
   alike =
       let same = order-keeps-nodes plusPlus g in
       record {
         to-below = λ v i. omega (arith, place-at v order (order-member plusPlus g v i) .1, long);
-        back-below = λ w i. distinct-below (nodes g) order (order-distinct plusPlus g) (getD order w 0) (member-at order w (omega (arith, long)));
+        back-below = λ w i.
+            distinct-below (nodes g) order (order-distinct plusPlus g) (getD order w 0) (member-at order w (omega (arith, long)));
         back-to = λ v i. place-at v order (order-member plusPlus g v i) .0;
         to-back = λ w i. at-place (nodes g) order (order-distinct plusPlus g) w (omega (arith, long));
         same-label = order-keeps-edges plusPlus g (file .edges-within) .node-labels;
@@ -143,7 +153,9 @@ module _ (s : Settings) (g₀ g₁ : Graph) (files : OfOneKind g₀ g₁) where
         sound = record {
           accepted₀ = renumbered-file s (s .vf2pp) g₀ (files .accepted₀);
           accepted₁ = renumbered-file s (s .vf2pp) g₁ (files .accepted₁);
-          same-kind = renumbered-kind s (s .vf2pp) g₁ (files .accepted₁) ∙ files .same-kind ∙ sym (renumbered-kind s (s .vf2pp) g₀ (files .accepted₀));
+          same-kind =
+              renumbered-kind s (s .vf2pp) g₁ (files .accepted₁) ∙ files .same-kind ∙ sym
+              (renumbered-kind s (s .vf2pp) g₀ (files .accepted₀));
         };
         counts = rw (
           order-keeps-nodes (s .vf2pp) g₀,

@@ -20,7 +20,8 @@ use Rattle.placements.proofs.Candidates.{inList₀, candidate-least, of
 use Rattle.placements.proofs.Paths.{accepted-nil, accepted-longer, tried-offered, tried-none, no-candidate}
 
 -- what is kept after the first that is kept
-pub first-kept : (p : ℕ → Bool) (k i x : ℕ) (r : List ℕ) → keep p (from i k) ≡ x ∷ r → (keep p (from (suc x) (i + k - suc x)) ≡ r) × (i ≤ x) × (x < i + k)
+pub first-kept : (p : ℕ → Bool) (k i x : ℕ) (r : List ℕ) → keep p (from i k) ≡ x ∷ r
+    → (keep p (from (suc x) (i + k - suc x)) ≡ r) × (i ≤ x) × (x < i + k)
 first-kept p zero i x r e = absurd (nil≢cons (sym (keep-nil p) ∙ (rw (from-none i) at e)))
 first-kept p (suc k) i x r e =
     case (p i)
@@ -76,7 +77,8 @@ module _ (t : Task) where
   then (left x) y = retold (omega arith) refl refl (left (then x y))
 
   -- the nodes that are tried are those of the candidate's list
-  pub tried-list : (path : List ℕ) (c : Candidate) → candidateAt t path ≡ some c → tried t path ≡ keep (inList₀ t (pairsOf t path) (c .list)) (from 0 (nodes (t .graph₀)))
+  pub tried-list : (path : List ℕ) (c : Candidate) → candidateAt t path ≡ some c
+      → tried t path ≡ keep (inList₀ t (pairsOf t path) (c .list)) (from 0 (nodes (t .graph₀)))
   unfolding tried
   tried-list path c e =
       keep-same-from (offered t path) (inList₀ t (pairsOf t path) (c .list)) (nodes (t .graph₀))
@@ -144,7 +146,8 @@ module _ (t : Task) where
         let same : i + (n - i) - suc a ≡ n - suc a = omega (arith, first .1, first .2) in
         let rest : keep p (from (suc a) (n - suc a)) ≡ r = rw same at (first .0) in
         let further = branches k path c e (suc a) r rest (λ y l f. kids y (member-tail y a r l) f) x in
-        let next : Search path (onward t path a) (total (stepsAt k path) r + s) (total (pairsAt k path) r + m) (joined (mapsAt k path) r ++ o) end last =
+        let next : Search path (onward t path a) (total (stepsAt k path) r + s) (total (pairsAt k path) r + m)
+        (joined (mapsAt k path) r ++ o) end last =
         rw (onward-next path c a r e rest) further in
         case (accepts t path a)
         (λ f.
@@ -196,4 +199,5 @@ module _ (t : Task) where
   -- the whole search
   pub searched : Search [] Outer (stepsOf t) (acceptedOf t) (listed t) [] Unwind
   searched =
-      retold (omega arith) (omega arith) (append-nil (listed t)) (below [] Unwind (nodes (t .graph₁)) [] (accepted-nil t) (omega arith) 0 0 [] nothing)
+      retold (omega arith) (omega arith) (append-nil (listed t))
+      (below [] Unwind (nodes (t .graph₁)) [] (accepted-nil t) (omega arith) 0 0 [] nothing)

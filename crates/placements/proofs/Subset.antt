@@ -29,7 +29,11 @@ same-own x = rw (eq-eqb (x .0) (x .0) refl, eq-eqb (x .1) (x .1) refl)
 
 same-equal : (x y : Labelled) → same x y ≡ true → x ≡ y
 same-equal x y e =
-    λ i. (eqb-true (x .0) (y .0) (and-left (eqb (x .0) (y .0)) (eqb (x .1) (y .1)) e) i, eqb-true (x .1) (y .1) (and-right (eqb (x .0) (y .0)) (eqb (x .1) (y .1)) e) i)
+    λ i. (
+      eqb-true (x .0) (y .0) (and-left (eqb (x .0) (y .0)) (eqb (x .1) (y .1)) e) i,
+      eqb-true (x .1) (y .1)
+          (and-right (eqb (x .0) (y .0)) (eqb (x .1) (y .1)) e) i,
+    )
 
 removed-nil : (x : Labelled) → removed x [] ≡ none
 unfolding removed

@@ -63,7 +63,12 @@ sum-most-one (suc n) p f m h one =
     omega (arith, sum-suc n (λ x. cond (p x) (f x) 0), h n (omega arith) e))
     (λ e.
     let last : cond (p n) (f n) 0 ≡ 0 = rw e in
-    omega (arith, sum-suc n (λ x. cond (p x) (f x) 0), sum-most-one n p f m (λ x l t. h x (omega arith) t) (λ x y l k t u. one x y (omega arith) (omega arith) t u)))
+    omega (
+      arith,
+      sum-suc n (λ x. cond (p x) (f x) 0),
+      sum-most-one n p f m (λ x l t. h x (omega arith) t)
+          (λ x y l k t u. one x y (omega arith) (omega arith) t u),
+    ))
 
 -- terms that are below others, with equal sums, are equal
 pub sum-tight : (n : ℕ) (f g : ℕ → ℕ) → ((i : ℕ) → i < n → f i ≤ g i) → sum n f ≡ sum n g → (i : ℕ) → i < n → f i ≡ g i

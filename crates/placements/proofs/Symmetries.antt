@@ -40,7 +40,8 @@ agree-chained false x y z h k = eq-eqb x z (eqb-true x y h ∙ eqb-true y z k)
 pub counts-chained : CountsChained
 counts-chained s g₀ g₁ g₂ h k =
     and-intro
-    (agree-chained (s .greater) (nodes g₀) (nodes g₁) (nodes g₂) (and-left (agree (s .greater) (nodes g₀) (nodes g₁)) _ h) (and-left (agree (s .greater) (nodes g₁) (nodes g₂)) _ k))
+    (agree-chained (s .greater) (nodes g₀) (nodes g₁) (nodes g₂) (and-left (agree (s .greater) (nodes g₀) (nodes g₁)) _ h)
+    (and-left (agree (s .greater) (nodes g₁) (nodes g₂)) _ k))
     (agree-chained (s .greater) (length (g₀ .edges)) (length (g₁ .edges)) (length (g₂ .edges))
     (and-right (agree (s .greater) (nodes g₀) (nodes g₁)) _ h) (and-right (agree (s .greater) (nodes g₁) (nodes g₂)) _ k))
 
@@ -97,7 +98,8 @@ reversed s g₀ g₁ φ e files agreed p =
     let there : (a : ℕ) → a < nodes g₀ → φ (reverse n φ a) ≡ a = λ a i. reverse-there n φ into (p .apart) a (rw same at i) in
     let below : (a : ℕ) → a < nodes g₀ → reverse n φ a < n = λ a i. reverse-below n φ into (p .apart) a (rw same at i) in
     let kept : (a b l : ℕ) → a < nodes g₀ → b < nodes g₀ → edgesOf s g₀ l a b ≡ edgesOf s g₁ l (reverse n φ a) (reverse n φ b) =
-    λ a b l i j. sym (rw (there a i, there b j) at (edges-equal s g₀ g₁ φ p files agreed e l (reverse n φ a) (reverse n φ b) (below a i) (below b j))) in
+    λ a b l i j. sym
+    (rw (there a i, there b j) at (edges-equal s g₀ g₁ φ p files agreed e l (reverse n φ a) (reverse n φ b) (below a i) (below b j))) in
     record {
       is-placement = record {
         within = below;

@@ -26,7 +26,8 @@ use Rattle.placements.proofs.Subset.{same, occurs, subset-counts}
 pub all-intro : (p : ℕ → Bool) (k i : ℕ) → ((x : ℕ) → i ≤ x → x < i + k → p x ≡ true) → all p (from i k) ≡ true
 all-intro p zero i h = rw (from-none i) (all-nil p)
 all-intro p (suc k) i h =
-    rw (from-suc i k, all-cons p i (from (suc i) k)) (and-intro (h i (omega arith) (omega arith)) (all-intro p k (suc i) (λ x a b. h x (omega arith) (omega arith))))
+    rw (from-suc i k, all-cons p i (from (suc i) k))
+    (and-intro (h i (omega arith) (omega arith)) (all-intro p k (suc i) (λ x a b. h x (omega arith) (omega arith))))
 
 pub all-elim : (p : ℕ → Bool) (k i : ℕ) → all p (from i k) ≡ true → (x : ℕ) → i ≤ x → x < i + k → p x ≡ true
 all-elim p zero i h x a b = absurd (omega arith)
@@ -61,11 +62,13 @@ entries-none : (directed : Bool) (v : ℕ) → labelledEntries directed v [] ≡
 unfolding labelledEntries
 entries-none directed v = refl
 
-entries-more : (directed : Bool) (v : ℕ) (e : Edge) (es : List Edge) → labelledEntries directed v (e ∷ es) ≡ labelledEntry (leads directed v e) (e .label) (labelledEntries directed v es)
+entries-more : (directed : Bool) (v : ℕ) (e : Edge) (es : List Edge)
+    → labelledEntries directed v (e ∷ es) ≡ labelledEntry (leads directed v e) (e .label) (labelledEntries directed v es)
 unfolding labelledEntries
 entries-more directed v e es = refl
 
-entry-occurs : (y l k : ℕ) (o : Option ℕ) (r : List (ℕ × ℕ)) → occurs (y, l) (labelledEntry o k r) ≡ cond (eqb l k) (cond (leadsTo o y) 1 0) 0 + occurs (y, l) r
+entry-occurs : (y l k : ℕ) (o : Option ℕ) (r : List (ℕ × ℕ))
+    → occurs (y, l) (labelledEntry o k r) ≡ cond (eqb l k) (cond (leadsTo o y) 1 0) 0 + occurs (y, l) r
 entry-occurs y l k none r = case (eqb l k) (λ e. rw e (omega arith)) (λ e. rw e (omega arith))
 entry-occurs y l k (some x) r =
     rw (count-cons (same (y, l)) (x, k) r, eqb-swap y x)
@@ -73,8 +76,10 @@ entry-occurs y l k (some x) r =
     (λ e. rw e)
     (λ e. rw e (case (eqb l k) (λ f. rw f) (λ f. rw f))))
 
-walk-occurs : (directed : Bool) (v y l : ℕ) (es : List Edge) → occurs (y, l) (labelledEntries directed v es) ≡ passing directed (λ e. eqb (e .label) l) es v y
-walk-occurs directed v y l [] = rw (entries-none directed v) (count-nil (same (y, l)) ∙ sym (count-nil (λ e. joins directed v y e && eqb (e .label) l)))
+walk-occurs : (directed : Bool) (v y l : ℕ) (es : List Edge)
+    → occurs (y, l) (labelledEntries directed v es) ≡ passing directed (λ e. eqb (e .label) l) es v y
+walk-occurs directed v y l [] =
+    rw (entries-none directed v) (count-nil (same (y, l)) ∙ sym (count-nil (λ e. joins directed v y e && eqb (e .label) l)))
 walk-occurs directed v y l (e ∷ es) =
     rw (entries-more directed v e es, labelled-cons directed l v y e es, joins-leads directed v y e)
     (omega (arith, entry-occurs y l (e .label) (leads directed v e) (labelledEntries directed v es), walk-occurs directed v y l es))
@@ -92,7 +97,8 @@ walk-leading : (directed : Bool) (n v : ℕ) (es : List Edge) → Within n es �
 walk-leading directed n v [] h = rw (entries-none directed v) tt
 walk-leading directed n v (e ∷ es) h =
     rw (entries-more directed v e es)
-    (entry-leading n (leads directed v e) (e .label) (labelledEntries directed v es) (leads-below directed n v e (h .0 .0) (h .0 .1)) (walk-leading directed n v es (h .1)))
+    (entry-leading n (leads directed v e) (e .label) (labelledEntries directed v es) (leads-below directed n v e (h .0 .0) (h .0 .1))
+    (walk-leading directed n v es (h .1)))
 
 module _ (partners : ℕ → Option ℕ) where
   carried-nil : carried partners [] ≡ []
@@ -120,7 +126,8 @@ module _ (partners : ℕ → Option ℕ) where
         entry-occurs y l (z .1) (partners (z .0)) (carried partners r),
         swapped (eqb l (z .1)) (leadsTo (partners (z .0)) y),
         carried-occurs n y l r (h .1),
-        sum-add n (λ x. cond (eqb x (z .0)) (cond (leadsTo (partners x) y && eqb l (z .1)) 1 0) 0) (λ x. cond (leadsTo (partners x) y) (occurs (x, l) r) 0),
+        sum-add n (λ x. cond (eqb x (z .0)) (cond (leadsTo (partners x) y && eqb l (z .1)) 1 0) 0)
+            (λ x. cond (leadsTo (partners x) y) (occurs (x, l) r) 0),
         sum-one n (λ x. cond (leadsTo (partners x) y && eqb l (z .1)) 1 0) (z .0) (h .0),
       ))
     where
@@ -144,10 +151,12 @@ module _ (g h : Graph) (ps : Pairs) (v w : ℕ) (within : Within (nodes g) (g .e
   abbrev partners : ℕ → Option ℕ
   partners = partner ((v, w) ∷ ps)
 
-  carried-walk : (y l : ℕ) → occurs (y, l) (carried partners (labelledWalk g v)) ≡ sum (nodes g) (λ x. cond (leadsTo (partners x) y) (labelledBetween g l v x) 0)
+  carried-walk : (y l : ℕ)
+      → occurs (y, l) (carried partners (labelledWalk g v)) ≡ sum (nodes g) (λ x. cond (leadsTo (partners x) y) (labelledBetween g l v x) 0)
   carried-walk y l =
       carried-occurs partners (nodes g) y l (labelledWalk g v) (walk-leading (g .directed) (nodes g) v (g .edges) within)
-      ∙ sum-same (nodes g) (λ x. cond (leadsTo (partners x) y) (occurs (x, l) (labelledWalk g v)) 0) (λ x. cond (leadsTo (partners x) y) (labelledBetween g l v x) 0)
+      ∙ sum-same (nodes g) (λ x. cond (leadsTo (partners x) y) (occurs (x, l) (labelledWalk g v)) 0)
+      (λ x. cond (leadsTo (partners x) y) (labelledBetween g l v x) 0)
       (λ x i. rw (walk-occurs (g .directed) v x l (g .edges)))
 
   abbrev Matches : Type 0

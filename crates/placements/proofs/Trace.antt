@@ -48,7 +48,8 @@ module _ (u : Task) (free : u .settings .limit ≡ none) where
   unfolding after acceptedIn foundIn
   comes-now r = record { path-is = refl; top-is = refl; accepted-is = refl; found-is = refl }
 
-  counted : {r : Record} {s m m′ : ℕ} {o : List (List ℕ)} {end : List ℕ} {last : Top} → m ≡ m′ → Comes r s m o end last → Comes r s m′ o end last
+  counted : {r : Record} {s m m′ : ℕ} {o : List (List ℕ)} {end : List ℕ} {last : Top} → m ≡ m′ → Comes r s m o end last
+      → Comes r s m′ o end last
   counted e c = rw (← e) c
 
   pub comes : {path end : List ℕ} {top last : Top} {s m : ℕ} {o : List (List ℕ)} → Search u path top s m o end last
@@ -56,22 +57,30 @@ module _ (u : Task) (free : u .settings .limit ≡ none) where
   comes (nothing {path} {top}) k = comes-now (record { path = path; top = top; accepted = k })
   comes (opened {path} {end} {last} {s} {m} {o} {c} e x) k =
       counted (omega arith)
-      (one-more (record { path = path; top = Outer; accepted = k }) (record { path = path; top = Inner (c .node₀); accepted = k }) s m o end last false false (step-candidate u path k c e) refl (comes x k))
+      (one-more (record { path = path; top = Outer; accepted = k })
+      (record { path = path; top = Inner (c .node₀); accepted = k }) s m o end last false false (step-candidate u path k c e) refl
+      (comes x k))
   comes (closed {path} {end} {last} {s} {m} {o} e w x) k =
       counted (omega arith)
-      (one-more (record { path = path; top = Outer; accepted = k }) (record { path = path; top = Unwind; accepted = k }) s m o end last false false (rw w at (step-none u path k e)) refl (comes x k))
+      (one-more (record { path = path; top = Outer; accepted = k })
+      (record { path = path; top = Unwind; accepted = k }) s m o end last false false (rw w at (step-none u path k e)) refl (comes x k))
   comes (found {path} {end} {last} {s} {m} {o} e w x) k =
       counted (omega arith)
-      (one-more (record { path = path; top = Outer; accepted = k }) (record { path = path; top = Unwind; accepted = k }) s m o end last false true (rw w at (step-none u path k e)) refl (comes x k))
+      (one-more (record { path = path; top = Outer; accepted = k })
+      (record { path = path; top = Unwind; accepted = k }) s m o end last false true (rw w at (step-none u path k e)) refl (comes x k))
   comes (taken {path} {end} {last} {s} {m} {x = a} {o} e x) k =
       counted (omega arith)
-      (one-more (record { path = path; top = Inner a; accepted = k }) (record { path = a ∷ path; top = Outer; accepted = raised u k }) s m o end last true false (step-taken u path a k e (never-above (raised u k))) e (comes x (raised u k)))
+      (one-more (record { path = path; top = Inner a; accepted = k })
+      (record { path = a ∷ path; top = Outer; accepted = raised u k }) s m o end last true false
+      (step-taken u path a k e (never-above (raised u k))) e (comes x (raised u k)))
   comes (passed {path} {end} {last} {s} {m} {x = a} {o} e x) k =
       counted (omega arith)
-      (one-more (record { path = path; top = Inner a; accepted = k }) (record { path = path; top = onward u path a; accepted = k }) s m o end last false false (step-passed u path a k e) e (comes x k))
+      (one-more (record { path = path; top = Inner a; accepted = k })
+      (record { path = path; top = onward u path a; accepted = k }) s m o end last false false (step-passed u path a k e) e (comes x k))
   comes (left {path} {end} {last} {s} {m} {x = a} {o} x) k =
       counted (omega arith)
-      (one-more (record { path = a ∷ path; top = Unwind; accepted = k }) (record { path = path; top = onward u path a; accepted = k }) s m o end last false false (step-left u path a k) refl (comes x k))
+      (one-more (record { path = a ∷ path; top = Unwind; accepted = k })
+      (record { path = path; top = onward u path a; accepted = k }) s m o end last false false (step-left u path a k) refl (comes x k))
 
 -- more steps accept no fewer pairs
 pub accepted-more : (u : Task) (s d : ℕ) (r : Record) → acceptedIn u s r ≤ acceptedIn u (s + d) r

@@ -94,7 +94,8 @@ module _ (t : Task) where
       }
 
   -- a search is one of the unlimited task too
-  pub search-unlimited : {path end : List ℕ} {top last : Top} {s m : ℕ} {o : List (List ℕ)} → Search t path top s m o end last → Search (unlimited t) path top s m o end last
+  pub search-unlimited : {path end : List ℕ} {top last : Top} {s m : ℕ} {o : List (List ℕ)} → Search t path top s m o end last
+      → Search (unlimited t) path top s m o end last
   search-unlimited nothing = nothing
   search-unlimited (opened {path} e x) = opened (candidate-at-same path ∙ e) (search-unlimited x)
   search-unlimited (closed {path} e w x) = closed (candidate-at-same path ∙ e) w (search-unlimited x)

@@ -41,7 +41,8 @@ Sound t = OfOneKind (t .graph₀) (t .graph₁)
 -- such files are what is read without a refusal, once the kinds don't differ
 abbrev pub FilesEnsure : Type 0
 FilesEnsure =
-    (bytes₀ bytes₁ : List ℕ) (g₀ g₁ : Graph) → reading 0 bytes₀ ≡ graph g₀ → reading 1 bytes₁ ≡ graph g₁ → g₁ .directed ≡ g₀ .directed → OfOneKind g₀ g₁
+    (bytes₀ bytes₁ : List ℕ)
+    (g₀ g₁ : Graph) → reading 0 bytes₀ ≡ graph g₀ → reading 1 bytes₁ ≡ graph g₁ → g₁ .directed ≡ g₀ .directed → OfOneKind g₀ g₁
 
 -- and settings that are not refused have a limit of at most its maximum, if they have one
 abbrev pub SettingsEnsure : Type 0
@@ -248,13 +249,15 @@ module _ (s : Settings) (g₀ g₁ : Graph) where
     pub all-place : Each (λ path. Placement s g₀ g₁ (idImage path)) (listed (taskOf s g₀ g₁))
     pub each-once : (φ : ℕ → ℕ) → Placement s g₀ g₁ φ → count (showsIds φ) (listed (taskOf s g₀ g₁)) ≡ 1
     -- whatever the limit and the record
-    pub found-places : (budget : ℕ) (r : Record) → acceptedRecord (taskOf s g₀ g₁) r ≡ true → continue (taskOf s g₀ g₁) budget r .answer ≡ Found
+    pub found-places : (budget : ℕ) (r : Record) → acceptedRecord (taskOf s g₀ g₁) r ≡ true
+        → continue (taskOf s g₀ g₁) budget r .answer ≡ Found
         → Placement s g₀ g₁ (idImage (continue (taskOf s g₀ g₁) budget r .record′ .path))
 
 -- a graph is listed in itself, a chain of listed placements is listed, and under Equal the reverse of one
 pub record SymmetriesListed (s : Settings) : Type 0 where
   pub identity-listed : (g : Graph) → AcceptedFile g → count (showsIds s g g (λ a. a)) (listed (taskOf s g g)) ≡ 1
-  pub chain-listed : (g₀ g₁ g₂ : Graph) (φ ψ : ℕ → ℕ) → OfOneKind g₀ g₁ → OfOneKind g₁ g₂ → graphsAgree s g₀ g₁ ≡ true → graphsAgree s g₁ g₂ ≡ true
+  pub chain-listed : (g₀ g₁ g₂ : Graph) (φ ψ : ℕ → ℕ) → OfOneKind g₀ g₁ → OfOneKind g₁ g₂ → graphsAgree s g₀ g₁ ≡ true
+      → graphsAgree s g₁ g₂ ≡ true
       → Placement s g₀ g₁ φ → Placement s g₁ g₂ ψ → count (showsIds s g₀ g₂ (λ a. φ (ψ a))) (listed (taskOf s g₀ g₂)) ≡ 1
   pub reverse-listed : (g₀ g₁ : Graph) (φ : ℕ → ℕ) → s .greater ≡ false → OfOneKind g₀ g₁ → graphsAgree s g₀ g₁ ≡ true
       → Placement s g₀ g₁ φ → count (showsIds s g₁ g₀ (reverse (nodes g₁) φ)) (listed (taskOf s g₁ g₀)) ≡ 1
