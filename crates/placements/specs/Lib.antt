@@ -1,0 +1,4 @@
+pub mod Listed
+pub mod Calls
+pub mod Claims
+pub mod Examples

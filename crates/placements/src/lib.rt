@@ -1,0 +1,1 @@
+// Laws: the search of the rules lists all placements.
