@@ -32,7 +32,7 @@ least-same p q n v h = ap head (keep-same-run p q (n - v) v (λ x l b. h x (omeg
 -- one graph, its state and the pairs as it sees them
 module _ (g : Graph) {m : List ℕ} {directed : Bool} {n : ℕ} {ps : Pairs} {s : Vf2State}
     (agrees : Agrees m directed n ps s) (kind : directed ≡ g .directed) (cells : cell m ≡ between g) (below : PartnersBelow ps) where
-  list-agreed : (list : OpenList) (x : ℕ) → x < n
+  pub list-agreed : (list : OpenList) (x : ℕ) → x < n
       → inListIn list (s .mapping) (s .out) (s .ins) x ≡ Rule.inList g (mapped ps) (listOf list) x
   list-agreed Out x h = rw (agreed-open-out agrees below x h, cells)
   list-agreed In x h = rw (agreed-open-in agrees below x h, second-cells g m cells, kind)
