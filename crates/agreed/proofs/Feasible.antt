@@ -21,6 +21,7 @@ use Rattle.graph.specs.Matrix.{cell, along}
 use Rattle.graph.specs.declared.Direction.{Direction}
 use Rattle.graph.specs.declared.Direction.the-variants.{Outgoing, Incoming}
 use Rattle.graph.proofs.Walk.{Below, leads-below, within-turned, between-turned, walk-count}
+use Rattle.tables.specs.Prepared.{Prepared}
 use Rattle.rules.specs.Task.{Task, agree, Pairs, exchanged, mapped, partner}
 use Rattle.rules.specs.Marks.{follows, firstMark, secondMark, Out, In, inList}
 use Rattle.rules.specs.Acceptable.{covers, isNew, labelledEntry, labelledEntries, labelledWalk, carried, matches, linked, labelled, ahead, sameLabel, feasible, markedNodes, acceptable}
@@ -30,7 +31,7 @@ use Rattle.state.proofs.Stamps.{stamp-marked}
 use Rattle.feasible.specs.Feasible.{partnersIn, edgesWhere, isNewIn, aimed, toward, imagesIn, Side, sideIn, coversIn, matchesIn, neighboursIn, linkedIn, aheadIn, labelledEdgesIn, sameLabelIn, feasibleIn}
 use Rattle.feasible.specs.declared.Switches.{Switches}
 use Rattle.feasible.proofs.Agreed.{PartnersBelow, agreed-partners, agreed-new, agreed-open-out, agreed-open-in, covers-same, edges-where-same}
-use Rattle.agreed.specs.Prepared.{Prepared, Switched}
+use Rattle.agreed.specs.Switched.{Switched}
 
 -- the graph whose outgoing edges are this graph's edges in the direction
 abbrev facing : Direction → Graph → Graph

@@ -1,1 +1,1 @@
-pub mod Prepared
+pub mod Switched

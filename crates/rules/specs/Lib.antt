@@ -4,3 +4,4 @@ pub mod Acceptable
 pub mod Search
 pub mod Placement
 pub mod Examples
+pub mod Handed
