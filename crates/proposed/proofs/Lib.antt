@@ -1,1 +1,4 @@
+pub mod Answers
 pub mod Joins
+pub mod Images
+pub mod FindingSources
