@@ -1,0 +1,5 @@
+pub mod Handed
+pub mod Found
+pub mod Images
+pub mod Tables
+pub mod Answered
