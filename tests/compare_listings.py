@@ -1,13 +1,17 @@
 #!/usr/bin/env python3
-"""Compares the relist program with the Rust oracle on fresh random pairs of graphs: listings, endings and step counts.
+"""Compares the searches with the Rust oracle on fresh random pairs of graphs: listings, endings and step counts.
 
-    tests/compare_listings.py --oracle ORACLE --relist PROGRAM --seed S --count K
+    tests/compare_listings.py --oracle ORACLE --relist PROGRAM [--list PROGRAM] --seed S --count K
 
 prints how many cases there were and how many differed, and the smallest of those that differ. Each case is run through
-Start and Continue, with one budget for all calls, and through the listing program's loop.
+Start and Continue by the program `relist`, with one budget for all calls, and, where it is named, by the program `list`.
 """
 import argparse
+import os
+import pathlib
 import random as randoms
+import subprocess
+import tempfile
 
 from graphs import Graph, pack, random_graph, run
 from searches import listing_case, pack_settings, random_settings, rust_listings
@@ -49,33 +53,48 @@ def random_case(random):
     return pack(board), pack(block), pack_settings(settings), budget
 
 
-def differences(oracle, relist, cases):
-    """(case, the Rust's answer, the program's) for each that differs; the program answers each case in two ways."""
-    asked = [listing_case(call, *each) for each in cases for call in ("lists", "gathr")]
-    want = [answer for answer in rust_listings(oracle, [each[:3] for each in cases]) for _ in range(2)]
-    got = run([relist], "".join(asked)).split("\n.\n")
+def listed(program, folder, case):
+    """What the listing program prints for the case."""
+    for name, data in zip(("g0.bin", "g1.bin", "settings.bin"), case):
+        folder.joinpath(name).write_bytes(data)
+    return subprocess.run([program], cwd=folder, stdout=subprocess.PIPE, text=True).stdout
+
+
+def differences(given, folder, cases):
+    """(case, the Rust's answer, ours) for each that differs."""
+    want = rust_listings(given.oracle, [case[:3] for case in cases])
+    got = run([given.relist], "".join(listing_case(*case) for case in cases)).split("\n.\n")
     got = got[:-1] + [""] * (len(want) - len(got) + 1)
-    return [(each, rust, ours) for each, rust, ours in zip([c for c in cases for _ in range(2)], want, got) if rust != ours]
+    found = [(case, rust, ours) for case, rust, ours in zip(cases, want, got) if rust != ours]
+    if given.list:
+        for case, rust in zip(cases, want):
+            ours = listed(given.list, folder, case)
+            if ours != rust[: rust.rindex("\n") + 1]:
+                found.append((case, rust, ours))
+    return found
 
 
 def main():
     words = argparse.ArgumentParser()
     words.add_argument("--oracle", required=True)
     words.add_argument("--relist", required=True)
+    words.add_argument("--list")
     words.add_argument("--seed", type=int, default=1)
     words.add_argument("--count", type=int, default=20000)
     given = words.parse_args()
+    given.list = given.list and os.path.abspath(given.list)
     random = randoms.Random(given.seed)
-    found, left, maps = [], given.count, 0
-    while left:
-        cases = [random_case(random) for _ in range(min(BATCH, left))]
-        found += differences(given.oracle, given.relist, cases)
-        left -= len(cases)
-    print(f"seed {given.seed}: {given.count} pairs of graphs, {2 * given.count} listings, {len(found)} differ")
+    found, left = [], given.count
+    with tempfile.TemporaryDirectory() as folder:
+        while left:
+            cases = [random_case(random) for _ in range(min(BATCH, left))]
+            found += differences(given, pathlib.Path(folder), cases)
+            left -= len(cases)
+    print(f"seed {given.seed}: {given.count} pairs of graphs, {len(found)} differ")
     if found:
         (board, block, settings, budget), rust, ours = min(found, key=lambda each: len(each[0][0]) + len(each[0][1]))
         print(f"g0 {board.hex()}\ng1 {block.hex()}\nsettings {settings.hex()} budget {budget}")
-        print(f"the Rust:\n{rust}\nthe program:\n{ours}")
+        print(f"the Rust:\n{rust}\nours:\n{ours}")
         raise SystemExit(1)
 
 

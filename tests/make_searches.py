@@ -265,14 +265,14 @@ def main():
     for files, answer in zip(listed, rust_listings(oracle, listed)):
         if model_listing(files) != answer:
             raise SystemExit(f"the model differs from the Rust: {[part.hex() for part in files]}")
-        cases += [(listing_case(call, *files), answer + "\n.\n") for call in ("lists", "gathr")]
+        cases.append((listing_case(*files), answer + "\n.\n"))
     for board, block, settings in pausing():
         files = pack(board), pack(block), pack_settings(settings)
         answer, = rust_listings(oracle, [files])
         steps = int(answer.split()[-2])
-        cases += [(listing_case("lists", *files, budget=budget), answer + "\n.\n") for budget in range(1, steps + 1)]
+        cases += [(listing_case(*files, budget=budget), answer + "\n.\n") for budget in range(1, steps + 1)]
         waits = model.Search(*files).counts_agree()
-        cases.append((listing_case("lists", *files, budget=0), "paused 0 0\nsteps 0 -\n.\n" if waits else answer + "\n.\n"))
+        cases.append((listing_case(*files, budget=0), "paused 0 0\nsteps 0 -\n.\n" if waits else answer + "\n.\n"))
     cases += [*refusals(), *records(), *checks(random)]
     CRATE.joinpath("stdin").write_text("".join(case for case, _ in cases))
     CRATE.joinpath("stdout").write_text("".join(answer for _, answer in cases))

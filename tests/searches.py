@@ -45,8 +45,8 @@ def node_count(file):
     return (int.from_bytes(file[:3], "big") >> 15) & 255
 
 
-def listing_case(call, file0, file1, settings, budget=65535):
-    return search_case(call, file0, file1, settings, budget=budget, buffer=2 * node_count(file1))
+def listing_case(file0, file1, settings, budget=65535):
+    return search_case("lists", file0, file1, settings, budget=budget, buffer=2 * node_count(file1))
 
 
 def rust_listings(oracle, cases):

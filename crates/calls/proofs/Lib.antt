@@ -3,3 +3,5 @@ pub mod Found
 pub mod Images
 pub mod Tables
 pub mod Answered
+pub mod Begun
+pub mod Judged

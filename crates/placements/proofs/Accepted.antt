@@ -18,7 +18,8 @@ use Rattle.rules.specs.Search.{Top, Outer, Inner, Unwind, Record, started, pair
 use Rattle.placements.specs.Listed.{whole}
 use Rattle.placements.specs.Claims.{Sound, AcceptedStays, EveryMapPlaces}
 use Rattle.placements.proofs.Candidates.{inList₀, head-member, candidate-node₀, offered-by}
-use Rattle.placements.proofs.Paths.{accepted-nil, accepted-shorter, accepted-longer, depth₀, depth₁}
+use Rattle.rules.proofs.Stays.{path-joined, path-last}
+use Rattle.placements.proofs.Paths.{accepted-nil, depth₀, depth₁}
 use Rattle.placements.proofs.Placed.{path-places}
 use Rattle.placements.proofs.Steps.{step-candidate, step-none, step-taken, step-over, step-passed, step-left, step-end, run-keeps, run-found}
 
@@ -77,12 +78,12 @@ module _ (t : Task) where
       (λ e. case (above (t .settings .limit) (raised k))
       (λ f. rw (step-over t path x k e f) (record { path-accepted = g .path-accepted; top-offered = g .top-offered }))
       (λ f. rw (step-taken t path x k e f)
-      (record { path-accepted = accepted-longer t x path (g .path-accepted) (g .top-offered) e; top-offered = refl })))
+      (record { path-accepted = path-joined t x path (g .path-accepted) (g .top-offered) e; top-offered = refl })))
       (λ e. rw (step-passed t path x k e) (record { path-accepted = g .path-accepted; top-offered = onward-offered path x }))
   step-good [] Unwind k g = rw (step-end t k) (record { path-accepted = g .path-accepted; top-offered = refl })
   step-good (x ∷ path) Unwind k g =
       rw (step-left t path x k)
-      (record { path-accepted = accepted-shorter t x path (g .path-accepted); top-offered = onward-offered path x })
+      (record { path-accepted = path-last t x path (g .path-accepted) .0; top-offered = onward-offered path x })
 
   pub steps-keep-good : (r : Record) → Good r → Good (step t (r .path) (r .top) (r .accepted) .0)
   steps-keep-good r g =

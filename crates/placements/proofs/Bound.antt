@@ -15,7 +15,8 @@ use Rattle.rules.specs.Search.{accepts, acceptedPath}
 use Rattle.placements.specs.Listed.{tried, stepsFrom, stepsOf}
 use Rattle.placements.specs.Claims.{falling, permutations}
 use Rattle.placements.proofs.Sums.{sum-none, sum-suc}
-use Rattle.placements.proofs.Paths.{accepted-nil, accepted-longer, tried-offered, tried-few}
+use Rattle.rules.proofs.Stays.{path-joined}
+use Rattle.placements.proofs.Paths.{accepted-nil, tried-offered, tried-few}
 use Rattle.placements.proofs.Searched.{stepsAt, steps-last, steps-more}
 
 permutations-one : (m : ℕ) → permutations m 0 ≡ 1
@@ -67,7 +68,7 @@ module _ (t : Task) where
       let p = permutations (m - 1) k in
       let less : n - length path - 1 ≡ n - suc (length path) = omega arith in
       let most = branches-most k path ((n + 2) * p) (tried t path)
-      (λ x l e. rw less (steps-most k (x ∷ path) (accepted-longer t x path a (tried-offered t path x l) e))) in
+      (λ x l e. rw less (steps-most k (x ∷ path) (path-joined t x path a (tried-offered t path x l) e))) in
       let few = tried-few t path a in
       rw (permutations-first m k, steps-more t k path)
       (node-most n m (length (tried t path)) (total (stepsAt t k path) (tried t path)) p (omega arith) (omega arith) most)

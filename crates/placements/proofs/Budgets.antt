@@ -7,7 +7,8 @@ use Rattle.lists.proofs.Tests.{case, option-case}
 use Rattle.rules.specs.Task.{Task}
 use Rattle.rules.specs.Search.{Record, step, Found, Paused, stops, Went, run, continue}
 use Rattle.placements.specs.Claims.{Budgets}
-use Rattle.placements.proofs.Steps.{run-stops, run-pauses, run-finds, run-goes-on, stops-not-paused}
+use Rattle.rules.proofs.Runs.{run-stops, run-pauses, run-finds, run-goes-on}
+use Rattle.placements.proofs.Steps.{stops-not-paused}
 
 module _ (t : Task) where
   abbrev stepped : Record → Record

@@ -13,7 +13,8 @@ use Rattle.rules.specs.Task.{Task, countsAgree}
 use Rattle.rules.specs.Search.{Top, Outer, Inner, Unwind, Record, above, raised, step, Found, None, Limit, Paused, isEnd, stops, Went, run}
 use Rattle.placements.specs.Listed.{listed, stepsOf, acceptedOf}
 use Rattle.placements.specs.Claims.{LimitMost}
-use Rattle.placements.proofs.Steps.{step-candidate, step-none, step-taken, step-over, step-passed, step-left, run-stops, run-pauses, run-finds, run-goes-on}
+use Rattle.rules.proofs.Runs.{run-stops, run-pauses, run-finds, run-goes-on}
+use Rattle.placements.proofs.Steps.{step-candidate, step-none, step-taken, step-over, step-passed, step-left}
 use Rattle.placements.proofs.Searched.{Search, nothing, opened, closed, found, taken, passed, left, retold, then}
 
 raised-counts : (c : ℕ) → min (suc (min c 4294967295)) 4294967295 ≡ min (suc c) 4294967295

@@ -16,7 +16,7 @@ use Rattle.placements.specs.Listed.{whole, listed, stepsOf, acceptedOf}
 use Rattle.placements.specs.Calls.{Called, calls, unlimited, after, acceptedIn, foundIn}
 use Rattle.placements.specs.Claims.{Sound, Places, imageIn, Each, AtLeastOne, LimitMost, NoMap, FromStart, BudgetsAlike, Listing, Limited}
 use Rattle.placements.proofs.Placed.{path-places}
-use Rattle.placements.proofs.Steps.{run-stops}
+use Rattle.rules.proofs.Runs.{run-stops}
 use Rattle.placements.proofs.Searched.{Search, searched}
 use Rattle.placements.proofs.Bound.{steps-within}
 use Rattle.placements.proofs.Once.{Map, listed-maps, listed-once}

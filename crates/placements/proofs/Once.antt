@@ -25,7 +25,8 @@ use Rattle.placements.proofs.Tests.{all-intro, all-elim}
 use Rattle.placements.proofs.Along.{Along, along-exchanged, Flipped, partner-along}
 use Rattle.placements.proofs.Passes.{OnImage, placed-alike, placed-in-list, placed-acceptable}
 use Rattle.placements.proofs.Candidates.{candidate-node₁, candidate-none, offered-cases, offered-by}
-use Rattle.placements.proofs.Paths.{pairs-nil, pairs-cons, long₁, accepted-nil, accepted-shorter, accepted-offered, accepted-longer, distinct₁, depth₁, tried-offered, tried-none, no-candidate, whole-at}
+use Rattle.rules.proofs.Stays.{pairs-cons, pairs-nil, partners-distinct, path-joined, path-last}
+use Rattle.placements.proofs.Paths.{long₁, accepted-nil, depth₁, tried-offered, tried-none, no-candidate, whole-at}
 use Rattle.placements.proofs.Placed.{partner-mapped, image}
 use Rattle.placements.proofs.Searched.{joined-nil, joined-cons, mapsAt, maps-last, maps-more}
 
@@ -102,7 +103,7 @@ module _ (t : Task) where
       (λ e some-tried. rw e
       (each-joined Map (mapsAt t k path) (tried t path)
       (λ x m. case (accepts t path x)
-      (λ f. rw f (maps-only k (x ∷ path) (accepted-longer t x path a (tried-offered t path x m) f)))
+      (λ f. rw f (maps-only k (x ∷ path) (path-joined t x path a (tried-offered t path x m) f)))
       (λ f. rw f tt))))
 
   pub listed-maps : Each Map (listed t)
@@ -135,10 +136,10 @@ module _ (t : Task) where
         rw (pairs-cons t x path) (
           (
             lies-image x path e,
-            offered-cases t path x (accepted-offered t x path a)
+            offered-cases t path x (path-last t x path a .1)
                 (λ c h l i. rw h (candidate-node₁ t (pairsOf t path) c h .1)),
           ),
-          lies-along path (accepted-shorter t x path a) (lies-shorter x path e),
+          lies-along path (path-last t x path a .0) (lies-shorter x path e),
         )
 
     -- seen at the images
@@ -149,10 +150,10 @@ module _ (t : Task) where
         let b = nodeOf (candidateAt t path) in
         let qs = exchanged (pairsOf t path) in
         let all : (z y : ℕ) → partner ((b, x) ∷ qs) y ≡ some z → z ≡ φ y = rw (pairs-cons t x path) at h in
-        let d = rw (pairs-cons t x path) at (distinct₁ t (x ∷ path) a) in
+        let d = rw (pairs-cons t x path) at (partners-distinct t (x ∷ path) a) in
         lies-cons x path
         ∙ and-intro (eq-eqb x (φ b) (all x b (partner-own b x qs b (eq-eqb b b refl))))
-        (along-lies path (accepted-shorter t x path a)
+        (along-lies path (path-last t x path a .0)
         (λ z y e. all z y (partner-other b x qs y
         (false-by (eqb y b) (λ f. never (member b (mapped qs)) (rw (eqb-true y b f) at (partner-mapped qs y z e)) (d .0 .1))) ∙ e)))
 
@@ -164,7 +165,7 @@ module _ (t : Task) where
         by-iff (shows t φ path) (lies path)
         (λ e. along-lies path (m .map-accepted)
         (λ x y h.
-        let l = distinct-below n (mapped qs) (distinct₁ t path (m .map-accepted)) y (partner-mapped qs y x h) in
+        let l = distinct-below n (mapped qs) (partners-distinct t path (m .map-accepted)) y (partner-mapped qs y x h) in
         let i = at-image y l in
         let same : imageIn t path y ≡ x = cc in
         sym same ∙ eqb-true (imageIn t path y) (φ y) (all-elim (λ w. eqb (imageIn t path w) (φ w)) n 0 e y (omega arith) (omega arith))))
@@ -190,7 +191,7 @@ module _ (t : Task) where
             depth₁ t path a,
             long₁ t path,
             from-length 0 n,
-            distinct-among n (from 0 n) us (distinct-from n n 0 (omega arith)) (distinct₁ t path a)
+            distinct-among n (from 0 n) us (distinct-from n n 0 (omega arith)) (partners-distinct t path a)
                 (λ v m. let i = member-from n 0 v m in h v (omega arith)),
           ) in
           option-case (candidateAt t path)
@@ -259,7 +260,7 @@ module _ (t : Task) where
           (λ e some-tried. rw e
           (count-joined lies (mapsAt t k path) (λ x. lies (x ∷ path)) (tried t path)
           (λ x m. case (accepts t path x)
-          (λ f. rw f (maps-once k (x ∷ path) (accepted-longer t x path a (tried-offered t path x m) f) (omega arith)))
+          (λ f. rw f (maps-once k (x ∷ path) (path-joined t x path a (tried-offered t path x m) f) (omega arith)))
           (λ f. rw f (count-nil lies ∙ sym
           (rw (false-by (lies (x ∷ path)) (λ g. never (accepts t path x) (image-accepted path x a (tried-offered t path x m) g) f))))))
           ∙ case (lies path)

@@ -14,6 +14,7 @@ use Rattle.lists.proofs.Distinct.{distinct-length, distinct-all, distinct-from,
 use Rattle.packed.specs.Graph.{nodes}
 use Rattle.rules.specs.Task.{Task, exchange, exchanged, mapped}
 use Rattle.rules.specs.Search.{pairsOf, candidateAt, nodeOf, accepts, offered, acceptedPath}
+use Rattle.rules.proofs.Stays.{pairs-length, path-distinct, partners-distinct}
 use Rattle.placements.specs.Listed.{tried, whole}
 use Rattle.placements.proofs.Candidates.{list-unmapped, candidate-node₁, offered-cases, offered-never}
 
@@ -27,73 +28,22 @@ distinct-append n (u ∷ us) vs d e h = (
 )
 
 module _ (t : Task) where
-  pub pairs-cons : (x : ℕ) (path : List ℕ) → pairsOf t (x ∷ path) ≡ (x, nodeOf (candidateAt t path)) ∷ pairsOf t path
-  unfolding pairsOf
-  pairs-cons x path = refl
-
-  pub pairs-nil : pairsOf t [] ≡ []
-  unfolding pairsOf
-  pairs-nil = refl
-
-  pairs-long : (path : List ℕ) → length (pairsOf t path) ≡ length path
-  pairs-long [] = rw pairs-nil
-  pairs-long (x ∷ path) = rw (pairs-cons x path) (ap suc (pairs-long path))
-
   pub long₀ : (path : List ℕ) → length (mapped (pairsOf t path)) ≡ length path
-  long₀ path = length-map (pairsOf t path) (λ p. p .0) ∙ pairs-long path
+  long₀ path = length-map (pairsOf t path) (λ p. p .0) ∙ pairs-length t path
 
   pub long₁ : (path : List ℕ) → length (mapped (exchanged (pairsOf t path))) ≡ length path
-  long₁ path = length-map (exchanged (pairsOf t path)) (λ p. p .0) ∙ length-map (pairsOf t path) exchange ∙ pairs-long path
+  long₁ path = length-map (exchanged (pairsOf t path)) (λ p. p .0) ∙ length-map (pairsOf t path) exchange ∙ pairs-length t path
 
   pub accepted-nil : acceptedPath t [] ≡ true
   unfolding acceptedPath
   accepted-nil = refl
 
-  accepted-cons : (x : ℕ) (path : List ℕ) → acceptedPath t (x ∷ path) ≡ (acceptedPath t path && (offered t path x && accepts t path x))
-  unfolding acceptedPath
-  accepted-cons x path = refl
-
-  pub accepted-shorter : (x : ℕ) (path : List ℕ) → acceptedPath t (x ∷ path) ≡ true → acceptedPath t path ≡ true
-  accepted-shorter x path e = and-left (acceptedPath t path) _ (sym (accepted-cons x path) ∙ e)
-
-  pub accepted-offered : (x : ℕ) (path : List ℕ) → acceptedPath t (x ∷ path) ≡ true → offered t path x ≡ true
-  accepted-offered x path e =
-      and-left (offered t path x) (accepts t path x) (and-right (acceptedPath t path) _ (sym (accepted-cons x path) ∙ e))
-
-  pub accepted-accepts : (x : ℕ) (path : List ℕ) → acceptedPath t (x ∷ path) ≡ true → accepts t path x ≡ true
-  accepted-accepts x path e =
-      and-right (offered t path x) (accepts t path x) (and-right (acceptedPath t path) _ (sym (accepted-cons x path) ∙ e))
-
-  pub accepted-longer : (x : ℕ) (path : List ℕ) → acceptedPath t path ≡ true → offered t path x ≡ true → accepts t path x ≡ true
-      → acceptedPath t (x ∷ path) ≡ true
-  accepted-longer x path e f g = accepted-cons x path ∙ and-intro e (and-intro f g)
-
-  pub distinct₀ : (path : List ℕ) → acceptedPath t path ≡ true → Distinct (nodes (t .graph₀)) (mapped (pairsOf t path))
-  distinct₀ [] e = rw pairs-nil tt
-  distinct₀ (x ∷ path) e =
-      rw (pairs-cons x path) (
-        offered-cases t path x (accepted-offered x path e)
-            (λ c h l i. (l, list-unmapped (t .graph₀) (mapped (pairsOf t path)) (c .list) x i)),
-        distinct₀ path (accepted-shorter x path e),
-      )
-
-  pub distinct₁ : (path : List ℕ) → acceptedPath t path ≡ true → Distinct (nodes (t .graph₁)) (mapped (exchanged (pairsOf t path)))
-  distinct₁ [] e = rw pairs-nil tt
-  distinct₁ (x ∷ path) e =
-      rw (pairs-cons x path) (
-        offered-cases t path x (accepted-offered x path e)
-            (λ c h l i.
-            let w = candidate-node₁ t (pairsOf t path) c h in
-            rw h (w .1, list-unmapped (t .graph₁) (mapped (exchanged (pairsOf t path))) (c .list) (c .node₁) (w .0))),
-        distinct₁ path (accepted-shorter x path e),
-      )
-
   -- depth at most both node counts
   pub depth₀ : (path : List ℕ) → acceptedPath t path ≡ true → length path ≤ nodes (t .graph₀)
-  depth₀ path e = omega (arith, distinct-length (nodes (t .graph₀)) (mapped (pairsOf t path)) (distinct₀ path e), long₀ path)
+  depth₀ path e = omega (arith, distinct-length (nodes (t .graph₀)) (mapped (pairsOf t path)) (path-distinct t path e), long₀ path)
 
   pub depth₁ : (path : List ℕ) → acceptedPath t path ≡ true → length path ≤ nodes (t .graph₁)
-  depth₁ path e = omega (arith, distinct-length (nodes (t .graph₁)) (mapped (exchanged (pairsOf t path))) (distinct₁ path e), long₁ path)
+  depth₁ path e = omega (arith, distinct-length (nodes (t .graph₁)) (mapped (exchanged (pairsOf t path))) (partners-distinct t path e), long₁ path)
 
   -- what is tried
   pub tried-offered : (path : List ℕ) (x : ℕ) → member x (tried t path) ≡ true → offered t path x ≡ true
@@ -114,7 +64,7 @@ module _ (t : Task) where
       omega (
         arith,
         distinct-length (nodes (t .graph₀)) (tried t path ++ us)
-            (distinct-append (nodes (t .graph₀)) (tried t path) us (tried-distinct path) (distinct₀ path e) apart),
+            (distinct-append (nodes (t .graph₀)) (tried t path) us (tried-distinct path) (path-distinct t path e) apart),
         length-append (tried t path) us,
         long₀ path,
       )
@@ -131,7 +81,7 @@ module _ (t : Task) where
       (λ c h.
       let w = candidate-node₁ t (pairsOf t path) c h in
       never (member (c .node₁) us)
-      (distinct-all (nodes (t .graph₁)) us (distinct₁ path e) (omega (arith, long₁ path, depth₁ path e)) (c .node₁) (w .1))
+      (distinct-all (nodes (t .graph₁)) us (partners-distinct t path e) (omega (arith, long₁ path, depth₁ path e)) (c .node₁) (w .1))
       (list-unmapped (t .graph₁) us (c .list) (c .node₁) (w .0)))
 
   pub whole-at : (path : List ℕ) → acceptedPath t path ≡ true → nodes (t .graph₁) ≤ length path → whole t path ≡ true

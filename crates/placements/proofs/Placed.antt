@@ -29,7 +29,8 @@ use Rattle.placements.specs.Claims.{Sound, imageIn, Places}
 use Rattle.placements.proofs.Labels.{edges-turned, edges-undirected, edges-compared, edges-not-compared}
 use Rattle.placements.proofs.Tests.{covers-elim, matches-elim}
 use Rattle.placements.proofs.Along.{exchanged-twice, Along, partner-along}
-use Rattle.placements.proofs.Paths.{pairs-nil, pairs-cons, long₁, accepted-shorter, accepted-accepts, distinct₀, distinct₁}
+use Rattle.rules.proofs.Stays.{pairs-cons, pairs-nil, partners-distinct, path-distinct, path-last}
+use Rattle.placements.proofs.Paths.{long₁}
 
 implies-elim : (a b : Bool) → implies a b ≡ true → a ≡ true → b ≡ true
 implies-elim true b e h = e
@@ -194,7 +195,7 @@ module _ (t : Task) (sound : Sound t) where
   accepts-is : (x : ℕ) (path : List ℕ) → acceptedPath t (x ∷ path) ≡ true
       → acceptable t (pairsOf t path) x (nodeOf (candidateAt t path)) ≡ true
   unfolding accepts
-  accepts-is x path e = accepted-accepts t x path e
+  accepts-is x path e = path-last t x path e .2
 
   none-carries : (g h : Graph) → Carries s g h []
   none-carries g h l x y p q e f = none-some (partner [] x) p (partner-nil x) e
@@ -204,15 +205,15 @@ module _ (t : Task) (sound : Sound t) where
   carries₁ (x ∷ path) e =
       rw (pairs-cons t x path)
       (carries-more s g₁ g₀ (exchanged (pairsOf t path)) (nodeOf (candidateAt t path)) x
-      (rw (pairs-cons t x path) at (distinct₁ t (x ∷ path) e))
-      (new₁ (pairsOf t path) x (nodeOf (candidateAt t path)) (accepts-is x path e)) (carries₁ path (accepted-shorter t x path e)))
+      (rw (pairs-cons t x path) at (partners-distinct t (x ∷ path) e))
+      (new₁ (pairsOf t path) x (nodeOf (candidateAt t path)) (accepts-is x path e)) (carries₁ path (path-last t x path e .0)))
 
   carries₀ : s .induced ≡ true → (path : List ℕ) → acceptedPath t path ≡ true → Carries s g₀ g₁ (pairsOf t path)
   carries₀ k [] e = rw (pairs-nil t) (none-carries g₀ g₁)
   carries₀ k (x ∷ path) e =
       rw (pairs-cons t x path)
-      (carries-more s g₀ g₁ (pairsOf t path) x (nodeOf (candidateAt t path)) (rw (pairs-cons t x path) at (distinct₀ t (x ∷ path) e))
-      (new₀ (pairsOf t path) x (nodeOf (candidateAt t path)) (accepts-is x path e) k) (carries₀ k path (accepted-shorter t x path e)))
+      (carries-more s g₀ g₁ (pairsOf t path) x (nodeOf (candidateAt t path)) (rw (pairs-cons t x path) at (path-distinct t (x ∷ path) e))
+      (new₀ (pairsOf t path) x (nodeOf (candidateAt t path)) (accepts-is x path e) k) (carries₀ k path (path-last t x path e .0)))
 
   abbrev Named : ℕ → ℕ → Type 0
   Named x y = s .nodeLabels ≡ true → getD (g₀ .labels) x 0 ≡ getD (g₁ .labels) y 0
@@ -221,7 +222,7 @@ module _ (t : Task) (sound : Sound t) where
   names [] e = rw (pairs-nil t) tt
   names (x ∷ path) e =
       rw (pairs-cons t x path)
-      (labels-alike (pairsOf t path) x (nodeOf (candidateAt t path)) (accepts-is x path e), names path (accepted-shorter t x path e))
+      (labels-alike (pairsOf t path) x (nodeOf (candidateAt t path)) (accepts-is x path e), names path (path-last t x path e .0))
 
   -- on a whole path every node has an image
   module _ (path : List ℕ) (accepted : acceptedPath t path ≡ true) (is-whole : whole t path ≡ true) where
@@ -229,13 +230,13 @@ module _ (t : Task) (sound : Sound t) where
     image w l =
         let us = mapped (exchanged (pairsOf t path)) in
         mapped-partner (exchanged (pairsOf t path)) w
-        (distinct-all (nodes g₁) us (distinct₁ t path accepted) (long₁ t path ∙ eqb-true (length path) (nodes g₁) is-whole) w l)
+        (distinct-all (nodes g₁) us (partners-distinct t path accepted) (long₁ t path ∙ eqb-true (length path) (nodes g₁) is-whole) w l)
         (λ y h. h ∙ rw h)
 
     image-back : (w : ℕ) → w < nodes g₁ → partner (pairsOf t path) (imageIn t path w) ≡ some w
     image-back w l =
         let d : Distinct (nodes g₀) (mapped (exchanged (exchanged (pairsOf t path)))) =
-        rw (exchanged-twice (pairsOf t path)) (distinct₀ t path accepted) in
+        rw (exchanged-twice (pairsOf t path)) (path-distinct t path accepted) in
         rw (exchanged-twice (pairsOf t path)) at (partner-back (nodes g₀) (exchanged (pairsOf t path)) d w (imageIn t path w) (image w l))
 
     pub path-places : Places t (imageIn t path)
@@ -244,7 +245,7 @@ module _ (t : Task) (sound : Sound t) where
         λ a b l i j. carries₁ path accepted l a b (imageIn t path a) (imageIn t path b) (image a i) (image b j) in
         record {
           within = λ a i.
-              distinct-below (nodes g₀) (mapped (pairsOf t path)) (distinct₀ t path accepted) (imageIn t path a)
+              distinct-below (nodes g₀) (mapped (pairsOf t path)) (path-distinct t path accepted) (imageIn t path a)
               (partner-mapped (pairsOf t path) (imageIn t path a) a (image-back a i));
           apart = λ a b i j e. let p = image-back a i in let q = image-back b j in cc;
           labels-agree = λ c a i. partner-along Named (pairsOf t path) (names path accepted) (imageIn t path a) a (image-back a i) c;

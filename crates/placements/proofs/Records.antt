@@ -18,7 +18,8 @@ use Rattle.placements.specs.Listed.{tried, stepsFrom, stepsOf}
 use Rattle.placements.specs.Calls.{unlimited, after}
 use Rattle.placements.specs.Claims.{Records}
 use Rattle.placements.proofs.Candidates.{inList₀, candidate-least, offered-cases}
-use Rattle.placements.proofs.Paths.{accepted-nil, accepted-shorter, accepted-offered, accepted-accepts, accepted-longer, tried-offered, depth₁, no-candidate}
+use Rattle.rules.proofs.Stays.{path-joined, path-last}
+use Rattle.placements.proofs.Paths.{accepted-nil, tried-offered, depth₁, no-candidate}
 use Rattle.placements.proofs.Accepted.{Good, good-accepted, accepted-good, steps-keep-good, start-good}
 use Rattle.placements.proofs.Searched.{Search, nothing, opened, taken, passed, left, then, first-kept, tried-list, onward-next, stepsAt, steps-more, below}
 use Rattle.placements.proofs.Unlimited.{accepts-same, offered-same, search-unlimited}
@@ -62,7 +63,7 @@ module _ (t : Task) where
         (case (accepts t path a)
         (λ f.
         let whole =
-        below t path (onward t path a) k (a ∷ path) (accepted-longer t a path accepted o f) (omega arith) 1 0 [] (left nothing) in
+        below t path (onward t path a) k (a ∷ path) (path-joined t a path accepted o f) (omega arith) 1 0 [] (left nothing) in
         let here : stepsAt t k path a ≡ suc (suc (stepsFrom t k (a ∷ path))) = rw f in
         made-in (omega arith) (made-then made (taken f whole)))
         (λ f.
@@ -121,11 +122,11 @@ module _ (t : Task) where
       let same : k ≡ nodes (t .graph₁) = omega arith in
       record { steps = 0; made = record { pairs = 0; maps = []; search = nothing }; rest = 0; sum = rw same (omega arith) }
   stage k (x ∷ path) a deep =
-      let shorter = accepted-shorter t x path a in
+      let shorter = path-last t x path a .0 in
       let g = stage (suc k) path shorter (omega arith) in
-      let f = accepted-accepts t x path a in
+      let f = path-last t x path a .2 in
       let here : stepsAt t k path x ≡ suc (suc (stepsFrom t k (x ∷ path))) = rw f in
-      let y = tries-at k path shorter (omega arith) g x (accepted-offered t x path a) in
+      let y = tries-at k path shorter (omega arith) g x (path-last t x path a .1) in
       record {
         steps = y .steps + 1;
         made = made-then (y .made) (taken f nothing);
@@ -171,9 +172,9 @@ module _ (t : Task) where
   path-same : (path : List ℕ) → acceptedPath (unlimited t) path ≡ true → acceptedPath t path ≡ true
   path-same [] e = accepted-nil t
   path-same (x ∷ path) e =
-      accepted-longer t x path (path-same path (accepted-shorter (unlimited t) x path e))
-      (sym (offered-same t path x) ∙ accepted-offered (unlimited t) x path e)
-      (sym (accepts-same t path x) ∙ accepted-accepts (unlimited t) x path e)
+      path-joined t x path (path-same path (path-last (unlimited t) x path e .0))
+      (sym (offered-same t path x) ∙ path-last (unlimited t) x path e .1)
+      (sym (accepts-same t path x) ∙ path-last (unlimited t) x path e .2)
 
   top-same : (path : List ℕ) (top : Top) → topOffered (unlimited t) path top ≡ true → topOffered t path top ≡ true
   top-same path Outer e = refl

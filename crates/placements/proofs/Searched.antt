@@ -17,7 +17,8 @@ use Rattle.rules.specs.Marks.{Candidate, head, nextFrom}
 use Rattle.rules.specs.Search.{Top, Outer, Inner, Unwind, pairsOf, candidateAt, innerOr, onward, accepts, offered, acceptedPath}
 use Rattle.placements.specs.Listed.{joined, tried, whole, itself, orItself, mapsFrom, stepsFrom, pairsFrom, listed, stepsOf, acceptedOf}
 use Rattle.placements.proofs.Candidates.{inList₀, candidate-least, offered-at}
-use Rattle.placements.proofs.Paths.{accepted-nil, accepted-longer, tried-offered, tried-none, no-candidate}
+use Rattle.rules.proofs.Stays.{path-joined}
+use Rattle.placements.proofs.Paths.{accepted-nil, tried-offered, tried-none, no-candidate}
 
 -- what is kept after the first that is kept
 pub first-kept : (p : ℕ → Bool) (k i x : ℕ) (r : List ℕ) → keep p (from i k) ≡ x ∷ r
@@ -191,7 +192,7 @@ module _ (t : Task) where
         let whole-run : n - 0 ≡ n = omega arith in
         let first : head (tried t path) ≡ some (c .node₀) = rw list (rw whole-run at (candidate-least t (pairsOf t path) c e .0)) in
         let all = branches k path c e 0 (tried t path) (rw whole-run (sym list))
-        (λ y l f. below k (y ∷ path) (accepted-longer t y path a (tried-offered t path y l) f) (omega arith)) x in
+        (λ y l f. below k (y ∷ path) (path-joined t y path a (tried-offered t path y l) f) (omega arith)) x in
         retold (omega (arith, steps-more k path)) (ap (λ z. z + m) (sym (pairs-more k path)))
         (rw (maps-more k path, or-others path (tried t path) (c .node₀) (joined (mapsAt k path) (tried t path)) first))
         (opened e (rw first at all)))

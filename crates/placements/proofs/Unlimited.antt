@@ -12,7 +12,7 @@ use Rattle.rules.specs.Search.{Top, pairsOf, candidateAt, nodeOf, inItsList, ne
 use Rattle.placements.specs.Listed.{joined, tried, orItself, mapsFrom, stepsFrom, pairsFrom}
 use Rattle.placements.specs.Calls.{unlimited}
 use Rattle.placements.specs.Claims.{LimitPlaysNoPart}
-use Rattle.placements.proofs.Paths.{pairs-nil, pairs-cons}
+use Rattle.rules.proofs.Stays.{pairs-cons, pairs-nil}
 use Rattle.placements.proofs.Searched.{stepsAt, pairsAt, mapsAt, steps-last, pairs-last, maps-last, steps-more, pairs-more, maps-more, Search, nothing, opened, closed, found, taken, passed, left}
 
 module _ (t : Task) where

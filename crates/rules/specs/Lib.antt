@@ -5,3 +5,4 @@ pub mod Search
 pub mod Placement
 pub mod Examples
 pub mod Handed
+pub mod Calls

@@ -14,7 +14,8 @@ use Rattle.packed.specs.Refusals.{Refused, first, fileLines, reading}
 use Rattle.packed.specs.Settings.{Settings, settingsOf, settingsLines, badSettings}
 use Rattle.packed.specs.Paper.{counts, summary}
 use Rattle.packed.proofs.Accepted.{nodes-of-graph}
-use Rattle.tasks.specs.Tasks.{kindLines, pairLines, accepted, refused, orAccepted, examineSays}
+use Rattle.rules.specs.Calls.{kindLines, pairLines}
+use Rattle.tasks.specs.Tasks.{accepted, refused, orAccepted, examineSays}
 use Rattle.tasks.proofs.Lines.{none-of-both, none-of-cons}
 
 -- what an acceptance says of the two files and the settings

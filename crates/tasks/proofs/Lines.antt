@@ -16,7 +16,8 @@ use Rattle.packed.specs.Settings.{Settings, settingsOf, settingsLines, badSetti
 use Rattle.packed.proofs.First.{first-before, first-behind, no-line}
 use Rattle.packed.proofs.Accepted.{Counted, nodes-of-graph, edges-of-graph}
 use Rattle.settings.specs.Paper.{settingsReading}
-use Rattle.tasks.specs.Tasks.{kindLines, ExamineSays, accepted, refused, orAccepted, examineSays}
+use Rattle.rules.specs.Calls.{kindLines}
+use Rattle.tasks.specs.Tasks.{ExamineSays, accepted, refused, orAccepted, examineSays}
 
 some-none : {A C : Type 0} (x : A) → some x ≡ none → C
 some-none x e = let z : _≡_ {A = ℕ} 0 1 = cc in absurd (omega arith)

@@ -1,27 +1,20 @@
 -- Two files and settings through the table's lines 1 to 8 (document 01, "The five outer calls and what they turn away").
 use Prim.Native.Nat.{ℕ}
-use mathlib.Core.Bool.{Bool, not}
-use mathlib.Core.List.{List, _∷_, _++_}
+use mathlib.Core.Bool.{Bool}
+use mathlib.Core.List.{List}
 use mathlib.Core.Option.{Option, none, some}
 use mathlib.Core.Path.{_≡_}
-use lib.Dec.{eqb}
 use lib.ListN.{length}
 use Rattle.packed.specs.Graph.{Graph, nodes}
-use Rattle.packed.specs.Packed.{kind, graphOf}
-use Rattle.packed.specs.Refusals.{Refused, Line, line, first, fileLines}
+use Rattle.packed.specs.Packed.{graphOf}
+use Rattle.packed.specs.Refusals.{Refused, first}
 use Rattle.packed.specs.Paper.{refusedBy}
-use Rattle.packed.specs.Settings.{Settings, settingsOf, settingsLines}
+use Rattle.packed.specs.Settings.{Settings, settingsOf}
+use Rattle.rules.specs.Calls.{pairLines}
 use Rattle.settings.specs.Paper.{settingsIn}
 use Rattle.feasible.specs.declared.Switches.{Switches}
 use Rattle.tasks.specs.declared.Examined.{Examined}
 use Rattle.tasks.specs.declared.Examined.the-variants as code
-
--- file 0 through 1 to 6, file 1 through 1 to 6, then 7: the two kinds differ, and 8: the settings
-abbrev pub kindLines : ℕ → List ℕ → List ℕ → List Line
-kindLines kind₀ f₁ s = fileLines 1 f₁ ++ (line 7 0 (not (eqb kind₀ (kind f₁))) ∷ settingsLines s)
-
-abbrev pub pairLines : List ℕ → List ℕ → List ℕ → List Line
-pairLines f₀ f₁ s = fileLines 0 f₀ ++ kindLines (kind f₀) f₁ s
 
 -- two accepted files of one kind and settings: the kind, the node and edge counts, and what is set
 pub data ExamineSays : Type 0 where
