@@ -224,7 +224,7 @@ fn put_end(line: &mut [u8; 4096], ending: &[u8], tally: Tally, accepted: u32) ->
 fn print(mut line: [u8; 4096], at: usize) -> bool
     requires { ⌜ at ≤ 4096 ⌝ }
 {
-    let end = put_word(&mut line, at, b"\n");
+    let end = text::put_byte(&mut line, at, b'\n');
     io::write_all(STDOUT_FILENO, &line[0..end])
 }
 
@@ -413,8 +413,8 @@ fn answer_list(file0: &[u8], file1: &[u8], settings: &[u8], budget: u16, buffer:
 }
 
 // Answers a case whose parts stand one after the other.
-fn answer(case: Case, bytes: [u8; 5872]) -> bool
-    requires { ⌜ case .length0 + case .length1 + case .settings + case .given ≤ 5872 ⌝ }
+fn answer(case: Case, bytes: &[u8]) -> bool
+    requires { ⌜ case .length0 + case .length1 + case .settings + case .given ≤ length (now bytes) ⌝ }
     requires { ⌜ case .budget ≤ 65535 ⌝ }
     requires { ⌜ case .buffer ≤ 512 ⌝ }
 {
@@ -466,7 +466,7 @@ fn read_bytes(case: Case) -> bool
     if !decode(&line, &mut bytes, count) {
         return bad_case();
     }
-    answer(case, bytes)
+    answer(case, &bytes)
 }
 
 fn run(case: Case) -> bool {
