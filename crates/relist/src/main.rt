@@ -313,7 +313,14 @@ fn answer_continue(
     if given.len() != RECORD {
         return bad_case();
     }
-    let continued = calls::continue_search(file0, file1, settings, record_of(given), budget, buffer);
+    let continued = calls::continue_search(
+        file0,
+        file1,
+        settings,
+        record_of(given),
+        budget,
+        buffer,
+    );
     let answer = continued.answer;
     let after = continued.after;
     let mut line = [0u8; 4096];
@@ -357,7 +364,10 @@ fn with_answer(tally: Tally, answer: ContinueAnswer) -> Tally {
         ContinueAnswer::None { steps } => with_steps(tally, steps),
         ContinueAnswer::Limit { steps } => with_steps(tally, steps),
         ContinueAnswer::Paused { steps } => with_steps(tally, steps),
-        ContinueAnswer::Refused { refusal: _, file: _ } => tally,
+        ContinueAnswer::Refused {
+            refusal: _,
+            file: _,
+        } => tally,
     }
 }
 
@@ -371,7 +381,13 @@ fn is_last(answer: ContinueAnswer, budget: u16) -> bool {
 }
 
 // Writes what an answer adds to a listing. Was it written?
-fn print_listed(answer: ContinueAnswer, budget: u16, tally: Tally, accepted: u32, map: &[u8]) -> bool {
+fn print_listed(
+    answer: ContinueAnswer,
+    budget: u16,
+    tally: Tally,
+    accepted: u32,
+    map: &[u8],
+) -> bool {
     match answer {
         ContinueAnswer::Found { steps: _ } => print_map(map),
         ContinueAnswer::None { steps: _ } => print_end(b"none", tally, accepted),
@@ -387,7 +403,13 @@ fn print_listed(answer: ContinueAnswer, budget: u16, tally: Tally, accepted: u32
 }
 
 // A whole listing, the same budget for each Continue. Nothing here says that it ends, so the loop counts its turns down.
-fn answer_list(file0: &[u8], file1: &[u8], settings: &[u8], budget: u16, buffer: &mut [u8]) -> bool {
+fn answer_list(
+    file0: &[u8],
+    file1: &[u8],
+    settings: &[u8],
+    budget: u16,
+    buffer: &mut [u8],
+) -> bool {
     let started = calls::start(file0, file1, settings);
     let mut after = started.fresh;
     let mut tally = Tally {
@@ -413,8 +435,8 @@ fn answer_list(file0: &[u8], file1: &[u8], settings: &[u8], budget: u16, buffer:
 }
 
 // Answers a case whose parts stand one after the other.
-fn answer(case: Case, bytes: &[u8]) -> bool
-    requires { ⌜ case .length0 + case .length1 + case .settings + case .given ≤ length (now bytes) ⌝ }
+fn answer(case: Case, bytes: &[u8; 5872]) -> bool
+    requires { ⌜ case .length0 + case .length1 + case .settings + case .given ≤ 5872 ⌝ }
     requires { ⌜ case .budget ≤ 65535 ⌝ }
     requires { ⌜ case .buffer ≤ 512 ⌝ }
 {
@@ -422,10 +444,11 @@ fn answer(case: Case, bytes: &[u8]) -> bool
     let end1 = end0 + case.length1;
     let end2 = end1 + case.settings;
     let end3 = end2 + case.given;
-    let file0 = &bytes[0..end0];
-    let file1 = &bytes[end0..end1];
-    let settings = &bytes[end1..end2];
-    let given = &bytes[end2..end3];
+    let parts = &bytes[..];
+    let file0 = &parts[0..end0];
+    let file1 = &parts[end0..end1];
+    let settings = &parts[end1..end2];
+    let given = &parts[end2..end3];
     let budget = case.budget as u16;
     let mut space = [255u8; 512];
     let size = case.buffer;

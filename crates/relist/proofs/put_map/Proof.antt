@@ -1,7 +1,6 @@
 -- `relist::put_map` meets its contract. At the loop's head the line ends within its 4096 bytes, and two bytes of the map are left for
 -- each pair that is still to come.
 use Prim.Native.Nat.{_*_, _-_, _≤_}
-use native.Mathlib.Omega.{arith}
 use borrow.Author.Needs.{needs}
 use lib.ListN.{length}
 use Rattle.relist.proofs.put_map.Statement.{statement}
