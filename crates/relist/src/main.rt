@@ -1,0 +1,557 @@
+// Answers cases of the outer calls Start, Continue and Check, and of listings by Start and Continue; tests/README.md has their form.
+ghost use Prim.Native.Nat.{_+_, _≤_};
+ghost use lib.ListN.{length};
+use calls::CheckAnswer;
+use calls::ContinueAnswer;
+use calls::StartAnswer;
+use libc::STDIN_FILENO;
+use libc::STDOUT_FILENO;
+use packed::Refusal;
+use records::Record;
+use step::Top;
+
+const MAX_FILE: usize = 2800;
+
+const MAX_SETTINGS: usize = 16;
+
+const MAX_GIVEN: usize = 256;
+
+const MAX_BUDGET: usize = 65535;
+
+const MAX_BUFFER: usize = 512;
+
+// A record's bytes: depth 2, top 1 (0 Outer, 1 Inner, 2 Unwind), position 2, accepted 4, path 128.
+const RECORD: usize = 137;
+
+enum Call {
+    Start,
+    Continue,
+    Check,
+    List,
+    Unknown,
+}
+
+// A case: the call, the lengths of its parts, the budget and the length of the answer buffer.
+struct Case {
+    call: Call,
+    length0: usize,
+    length1: usize,
+    settings: usize,
+    given: usize,
+    budget: usize,
+    buffer: usize,
+}
+
+// How a listing goes: the maps so far, all steps, and those up to the first map.
+struct Tally {
+    maps: usize,
+    steps: usize,
+    first: usize,
+}
+
+fn call_of(letter: u8) -> Call {
+    match letter {
+        b's' => Call::Start,
+        b'c' => Call::Continue,
+        b'k' => Call::Check,
+        b'l' => Call::List,
+        _ => Call::Unknown,
+    }
+}
+
+// A line is put together from its start; each of these answers its length so far. A field is a space and a number.
+fn put_word(line: &mut [u8; 4096], at: usize, word: &[u8]) -> usize
+    requires { ⌜ at ≤ 4096 ⌝ }
+    ensures { λ r. ⌜ r ≤ 4096 ⌝ }
+{
+    text::put_bytes(line, at, word)
+}
+
+fn put_number(line: &mut [u8; 4096], at: usize, n: usize) -> usize
+    requires { ⌜ at ≤ 4096 ⌝ }
+    ensures { λ r. ⌜ r ≤ 4096 ⌝ }
+{
+    text::put_number(line, at, n as u64)
+}
+
+fn put_field(line: &mut [u8; 4096], at: usize, n: usize) -> usize
+    requires { ⌜ at ≤ 4096 ⌝ }
+    ensures { λ r. ⌜ r ≤ 4096 ⌝ }
+{
+    let next = put_word(line, at, b" ");
+    put_number(line, next, n)
+}
+
+fn put_fields(line: &mut [u8; 4096], at: usize, bytes: &[u8]) -> usize
+    requires { ⌜ at ≤ 4096 ⌝ }
+    ensures { λ r. ⌜ r ≤ 4096 ⌝ }
+{
+    let mut end = at;
+    for i in 0..bytes.len() {
+        end = put_field(line, end, bytes[i] as usize);
+    }
+    end
+}
+
+fn put_named(line: &mut [u8; 4096], name: &[u8], n: usize) -> usize
+    ensures { λ r. ⌜ r ≤ 4096 ⌝ }
+{
+    let at = put_word(line, 0, name);
+    put_field(line, at, n)
+}
+
+fn put_refusal(line: &mut [u8; 4096], refusal: Refusal, file: usize) -> usize
+    ensures { λ r. ⌜ r ≤ 4096 ⌝ }
+{
+    let at = put_named(line, b"refused", packed::number_of(refusal));
+    put_field(line, at, file)
+}
+
+fn put_inner(line: &mut [u8; 4096], at: usize, position: usize) -> usize
+    requires { ⌜ at ≤ 4096 ⌝ }
+    ensures { λ r. ⌜ r ≤ 4096 ⌝ }
+{
+    let next = put_word(line, at, b" inner");
+    put_field(line, next, position)
+}
+
+fn put_top(line: &mut [u8; 4096], at: usize, top: Top) -> usize
+    requires { ⌜ at ≤ 4096 ⌝ }
+    ensures { λ r. ⌜ r ≤ 4096 ⌝ }
+{
+    match top {
+        Top::Outer => put_word(line, at, b" outer"),
+        Top::Inner(position) => put_inner(line, at, position),
+        Top::Unwind => put_word(line, at, b" unwind"),
+    }
+}
+
+fn put_record(line: &mut [u8; 4096], at: usize, after: Record) -> usize
+    requires { ⌜ at ≤ 4096 ⌝ }
+    ensures { λ r. ⌜ r ≤ 4096 ⌝ }
+{
+    let named = put_word(line, at, b" record");
+    let deep = put_field(line, named, after.depth);
+    let top = after.top;
+    let topped = put_top(line, deep, top);
+    let counted = put_field(line, topped, after.accepted as usize);
+    let path = after.path;
+    put_fields(line, counted, &path)
+}
+
+fn put_begun(line: &mut [u8; 4096], fresh: Record) -> usize
+    ensures { λ r. ⌜ r ≤ 4096 ⌝ }
+{
+    let at = put_word(line, 0, b"started");
+    put_record(line, at, fresh)
+}
+
+fn put_started(line: &mut [u8; 4096], answer: StartAnswer, fresh: Record) -> usize
+    ensures { λ r. ⌜ r ≤ 4096 ⌝ }
+{
+    match answer {
+        StartAnswer::Begun => put_begun(line, fresh),
+        StartAnswer::Refused { refusal, file } => put_refusal(line, refusal, file),
+    }
+}
+
+fn put_continued(line: &mut [u8; 4096], answer: ContinueAnswer) -> usize
+    ensures { λ r. ⌜ r ≤ 4096 ⌝ }
+{
+    match answer {
+        ContinueAnswer::Found { steps } => put_named(line, b"found", steps),
+        ContinueAnswer::None { steps } => put_named(line, b"none", steps),
+        ContinueAnswer::Limit { steps } => put_named(line, b"limit", steps),
+        ContinueAnswer::Paused { steps } => put_named(line, b"paused", steps),
+        ContinueAnswer::Refused { refusal, file } => put_refusal(line, refusal, file),
+    }
+}
+
+fn put_checked(line: &mut [u8; 4096], answer: CheckAnswer) -> usize
+    ensures { λ r. ⌜ r ≤ 4096 ⌝ }
+{
+    match answer {
+        CheckAnswer::Yes => put_word(line, 0, b"yes"),
+        CheckAnswer::No => put_word(line, 0, b"no"),
+        CheckAnswer::Refused { refusal, file } => put_refusal(line, refusal, file),
+    }
+}
+
+// A pair of a map, the graph-0 node and the graph-1 node.
+fn put_pair(line: &mut [u8; 4096], at: usize, a: u8, b: u8) -> usize
+    requires { ⌜ at ≤ 4096 ⌝ }
+    ensures { λ r. ⌜ r ≤ 4096 ⌝ }
+{
+    let first = put_field(line, at, a as usize);
+    let next = put_word(line, first, b":");
+    put_number(line, next, b as usize)
+}
+
+fn put_map(line: &mut [u8; 4096], map: &[u8]) -> usize
+    ensures { λ r. ⌜ r ≤ 4096 ⌝ }
+{
+    let mut end = put_word(line, 0, b"map");
+    for i in 0..map.len() / 2 {
+        end = put_pair(line, end, map[2 * i], map[2 * i + 1]);
+    }
+    end
+}
+
+fn put_first(line: &mut [u8; 4096], at: usize, tally: Tally) -> usize
+    requires { ⌜ at ≤ 4096 ⌝ }
+    ensures { λ r. ⌜ r ≤ 4096 ⌝ }
+{
+    if tally.maps == 0 {
+        put_word(line, at, b" -")
+    } else {
+        put_field(line, at, tally.first)
+    }
+}
+
+// The last line of a listing, a line of its steps, and the line that ends it.
+fn put_end(line: &mut [u8; 4096], ending: &[u8], tally: Tally, accepted: u32) -> usize
+    ensures { λ r. ⌜ r ≤ 4096 ⌝ }
+{
+    let mapped = put_named(line, ending, tally.maps);
+    let counted = put_field(line, mapped, accepted as usize);
+    let named = put_word(line, counted, b"\nsteps");
+    let stepped = put_field(line, named, tally.steps);
+    let all = put_first(line, stepped, tally);
+    put_word(line, all, b"\n.")
+}
+
+// Ends the line and writes it. Was it written?
+fn print(mut line: [u8; 4096], at: usize) -> bool
+    requires { ⌜ at ≤ 4096 ⌝ }
+{
+    let end = text::put_byte(&mut line, at, b'\n');
+    io::write_all(STDOUT_FILENO, &line[0..end])
+}
+
+fn print_map(map: &[u8]) -> bool {
+    let mut line = [0u8; 4096];
+    let at = put_map(&mut line, map);
+    print(line, at)
+}
+
+fn print_end(ending: &[u8], tally: Tally, accepted: u32) -> bool {
+    let mut line = [0u8; 4096];
+    let at = put_end(&mut line, ending, tally, accepted);
+    print(line, at)
+}
+
+fn print_refusal(refusal: Refusal, file: usize) -> bool {
+    let mut line = [0u8; 4096];
+    let at = put_refusal(&mut line, refusal, file);
+    print(line, at)
+}
+
+fn bad_case() -> bool {
+    io::write_all(STDOUT_FILENO, b"bad case\n");
+    false
+}
+
+fn answer_start(file0: &[u8], file1: &[u8], settings: &[u8]) -> bool {
+    let started = calls::start(file0, file1, settings);
+    let answer = started.answer;
+    let fresh = started.fresh;
+    let mut line = [0u8; 4096];
+    let at = put_started(&mut line, answer, fresh);
+    print(line, at)
+}
+
+// Two bytes as a number, the high one first.
+fn number_of(high: u8, low: u8) -> usize
+    ensures { λ r. ⌜ r ≤ 65535 ⌝ }
+{
+    high as usize * 256 + low as usize
+}
+
+fn top_of(kind: u8, position: usize) -> Top {
+    match kind {
+        0 => Top::Outer,
+        1 => Top::Inner(position),
+        _ => Top::Unwind,
+    }
+}
+
+fn path_of(given: &[u8]) -> [u8; 128]
+    requires { ⌜ 137 ≤ length (now given) ⌝ }
+{
+    let mut path = [0u8; 128];
+    for i in 0..128 {
+        path[i] = given[9 + i];
+    }
+    path
+}
+
+fn record_of(given: &[u8]) -> Record
+    requires { ⌜ 137 ≤ length (now given) ⌝ }
+{
+    let depth = number_of(given[0], given[1]);
+    let position = number_of(given[3], given[4]);
+    let high = number_of(given[5], given[6]);
+    let low = number_of(given[7], given[8]);
+    let top = top_of(given[2], position);
+    let path = path_of(given);
+    Record {
+        depth,
+        path,
+        top,
+        accepted: (high * 65536 + low) as u32,
+    }
+}
+
+fn answer_continue(
+    file0: &[u8],
+    file1: &[u8],
+    settings: &[u8],
+    given: &[u8],
+    budget: u16,
+    buffer: &mut [u8],
+) -> bool {
+    if given.len() != RECORD {
+        return bad_case();
+    }
+    let continued = calls::continue_search(
+        file0,
+        file1,
+        settings,
+        record_of(given),
+        budget,
+        buffer,
+    );
+    let answer = continued.answer;
+    let after = continued.after;
+    let mut line = [0u8; 4096];
+    let at = put_continued(&mut line, answer);
+    let recorded = put_record(&mut line, at, after);
+    let named = put_word(&mut line, recorded, b" buffer");
+    let end = put_fields(&mut line, named, buffer);
+    print(line, end)
+}
+
+fn answer_check(file0: &[u8], file1: &[u8], settings: &[u8], map: &[u8]) -> bool {
+    let mut line = [0u8; 4096];
+    let at = put_checked(&mut line, calls::check(file0, file1, settings, map));
+    print(line, at)
+}
+
+// Nothing bounds a listing's length, so its numbers are sums that wrap.
+fn with_steps(tally: Tally, steps: usize) -> Tally {
+    Tally {
+        maps: tally.maps,
+        steps: std::num::wrapping_add_usize(tally.steps, steps),
+        first: tally.first,
+    }
+}
+
+fn with_map(tally: Tally) -> Tally {
+    Tally {
+        maps: std::num::wrapping_add_usize(tally.maps, 1),
+        steps: tally.steps,
+        first: if tally.maps == 0 {
+            tally.steps
+        } else {
+            tally.first
+        },
+    }
+}
+
+fn with_answer(tally: Tally, answer: ContinueAnswer) -> Tally {
+    match answer {
+        ContinueAnswer::Found { steps } => with_map(with_steps(tally, steps)),
+        ContinueAnswer::None { steps } => with_steps(tally, steps),
+        ContinueAnswer::Limit { steps } => with_steps(tally, steps),
+        ContinueAnswer::Paused { steps } => with_steps(tally, steps),
+        ContinueAnswer::Refused {
+            refusal: _,
+            file: _,
+        } => tally,
+    }
+}
+
+// With budget 0 a pause would follow a pause for ever.
+fn is_last(answer: ContinueAnswer, budget: u16) -> bool {
+    match answer {
+        ContinueAnswer::Found { steps: _ } => false,
+        ContinueAnswer::Paused { steps: _ } => budget == 0,
+        _ => true,
+    }
+}
+
+// Writes what an answer adds to a listing. Was it written?
+fn print_listed(
+    answer: ContinueAnswer,
+    budget: u16,
+    tally: Tally,
+    accepted: u32,
+    map: &[u8],
+) -> bool {
+    match answer {
+        ContinueAnswer::Found { steps: _ } => print_map(map),
+        ContinueAnswer::None { steps: _ } => print_end(b"none", tally, accepted),
+        ContinueAnswer::Limit { steps: _ } => print_end(b"limit", tally, accepted),
+        ContinueAnswer::Paused { steps: _ } => {
+            if budget == 0 {
+                return print_end(b"paused", tally, accepted);
+            }
+            true
+        }
+        ContinueAnswer::Refused { refusal, file } => print_refusal(refusal, file),
+    }
+}
+
+// A whole listing, the same budget for each Continue. Nothing here says that it ends, so the loop counts its turns down.
+fn answer_list(
+    file0: &[u8],
+    file1: &[u8],
+    settings: &[u8],
+    budget: u16,
+    buffer: &mut [u8],
+) -> bool {
+    let started = calls::start(file0, file1, settings);
+    let mut after = started.fresh;
+    let mut tally = Tally {
+        maps: 0,
+        steps: 0,
+        first: 0,
+    };
+    let mut turns = u64::MAX;
+    while turns > 0 {
+        let continued = calls::continue_search(file0, file1, settings, after, budget, buffer);
+        let answer = continued.answer;
+        after = continued.after;
+        tally = with_answer(tally, answer);
+        if !print_listed(answer, budget, tally, after.accepted, buffer) {
+            return false;
+        }
+        if is_last(answer, budget) {
+            return true;
+        }
+        turns -= 1;
+    }
+    false
+}
+
+// Answers a case whose parts stand one after the other.
+fn answer(case: Case, bytes: &[u8; 5872]) -> bool
+    requires { ⌜ case .length0 + case .length1 + case .settings + case .given ≤ 5872 ⌝ }
+    requires { ⌜ case .budget ≤ 65535 ⌝ }
+    requires { ⌜ case .buffer ≤ 512 ⌝ }
+{
+    let end0 = case.length0;
+    let end1 = end0 + case.length1;
+    let end2 = end1 + case.settings;
+    let end3 = end2 + case.given;
+    let parts = &bytes[..];
+    let file0 = &parts[0..end0];
+    let file1 = &parts[end0..end1];
+    let settings = &parts[end1..end2];
+    let given = &parts[end2..end3];
+    let budget = case.budget as u16;
+    let mut space = [255u8; 512];
+    let size = case.buffer;
+    let buffer = &mut space[0..size];
+    let call = case.call;
+    match call {
+        Call::Start => answer_start(file0, file1, settings),
+        Call::Continue => answer_continue(file0, file1, settings, given, budget, buffer),
+        Call::Check => answer_check(file0, file1, settings, given),
+        Call::List => answer_list(file0, file1, settings, budget, buffer),
+        Call::Unknown => bad_case(),
+    }
+}
+
+fn decode(line: &[u8; 11745], bytes: &mut [u8; 5872], count: usize) -> bool
+    requires { ⌜ count ≤ 5872 ⌝ }
+{
+    text::decode(line, bytes, count)
+}
+
+// Reads the bytes of a case and answers the case.
+fn read_bytes(case: Case) -> bool
+    requires { ⌜ case .length0 + case .length1 + case .settings + case .given ≤ 5872 ⌝ }
+    requires { ⌜ case .budget ≤ 65535 ⌝ }
+    requires { ⌜ case .buffer ≤ 512 ⌝ }
+{
+    let count = case.length0 + case.length1 + case.settings + case.given;
+    let mut line = [0u8; 11745];
+    let end = 2 * count;
+    let got = io::read_full(STDIN_FILENO, &mut line[0..end + 1]);
+    if got != end + 1 {
+        return bad_case();
+    }
+    if line[end] != b'\n' {
+        return bad_case();
+    }
+    let mut bytes = [0u8; 5872];
+    if !decode(&line, &mut bytes, count) {
+        return bad_case();
+    }
+    answer(case, &bytes)
+}
+
+fn run(case: Case) -> bool {
+    if MAX_FILE < case.length0 {
+        return bad_case();
+    }
+    if MAX_FILE < case.length1 {
+        return bad_case();
+    }
+    if MAX_SETTINGS < case.settings {
+        return bad_case();
+    }
+    if MAX_GIVEN < case.given {
+        return bad_case();
+    }
+    if MAX_BUDGET < case.budget {
+        return bad_case();
+    }
+    if MAX_BUFFER < case.buffer {
+        return bad_case();
+    }
+    read_bytes(case)
+}
+
+// A number of the header, with the space after it.
+fn number_at(header: &[u8; 42], at: usize) -> usize
+    requires { ⌜ at + 6 ≤ 42 ⌝ }
+{
+    if header[at + 5] != b' ' {
+        return text::NO_NUMBER;
+    }
+    text::number(header, at, 5)
+}
+
+// Answers the next case. Is there one after it?
+fn next_case() -> bool {
+    let mut header = [0u8; 42];
+    let got = io::read_full(STDIN_FILENO, &mut header);
+    if got == 0 {
+        return false;
+    }
+    if got < 42 {
+        return bad_case();
+    }
+    if header[5] != b' ' {
+        return bad_case();
+    }
+    run(Case {
+        call: call_of(header[0]),
+        length0: number_at(&header, 6),
+        length1: number_at(&header, 12),
+        settings: number_at(&header, 18),
+        given: number_at(&header, 24),
+        budget: number_at(&header, 30),
+        buffer: number_at(&header, 36),
+    })
+}
+
+// Nothing says that the input ends, so the loop counts its turns down.
+fn main() {
+    let mut turns = u64::MAX;
+    while turns > 0 && next_case() {
+        turns -= 1;
+    }
+}
