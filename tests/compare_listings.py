@@ -61,7 +61,7 @@ def listed(program, folder, case):
 
 
 def differences(given, folder, cases):
-    """(case, the Rust's answer, ours) for each that differs."""
+    """(case, the Rust's answer, ours) for each that differs; and the maps and steps of all."""
     want = rust_listings(given.oracle, [case[:3] for case in cases])
     got = run([given.relist], "".join(listing_case(*case) for case in cases)).split("\n.\n")
     got = got[:-1] + [""] * (len(want) - len(got) + 1)
@@ -71,7 +71,8 @@ def differences(given, folder, cases):
             ours = listed(given.list, folder, case)
             if ours != rust[: rust.rindex("\n") + 1]:
                 found.append((case, rust, ours))
-    return found
+    sizes = [[int(line.split()[1]) for line in rust.splitlines()[-2:]] for rust in want]
+    return found, sum(maps for maps, _ in sizes), sum(steps for _, steps in sizes)
 
 
 def main():
@@ -84,13 +85,14 @@ def main():
     given = words.parse_args()
     given.list = given.list and os.path.abspath(given.list)
     random = randoms.Random(given.seed)
-    found, left = [], given.count
+    found, left, maps, steps = [], given.count, 0, 0
     with tempfile.TemporaryDirectory() as folder:
         while left:
             cases = [random_case(random) for _ in range(min(BATCH, left))]
-            found += differences(given, pathlib.Path(folder), cases)
+            more, some_maps, some_steps = differences(given, pathlib.Path(folder), cases)
+            found, maps, steps = found + more, maps + some_maps, steps + some_steps
             left -= len(cases)
-    print(f"seed {given.seed}: {given.count} pairs of graphs, {len(found)} differ")
+    print(f"seed {given.seed}: {given.count} pairs of graphs, {maps} maps, {steps} steps, {len(found)} differ")
     if found:
         (board, block, settings, budget), rust, ours = min(found, key=lambda each: len(each[0][0]) + len(each[0][1]))
         print(f"g0 {board.hex()}\ng1 {block.hex()}\nsettings {settings.hex()} budget {budget}")
