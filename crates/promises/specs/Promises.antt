@@ -1,0 +1,85 @@
+-- What the outer calls promise of files and node ids (document 01, all of it), each promise a statement by itself. Files, settings,
+-- maps and buffers are lists of bytes; what the calls answer stands in the rules' `Calls`, sessions of them in `Sessions`.
+use Prim.Native.Nat.{ℕ, suc, _+_, _*_, _≤_, _<_}
+use mathlib.Core.Bool.{Bool, true, false, cond}
+use mathlib.Core.List.{List, [], _∷_, _++_, map}
+use mathlib.Core.Logic.{_↔_}
+use mathlib.Core.Option.{Option, none, some}
+use mathlib.Core.Path.{_≡_}
+use lib.Dec.{eqb, ltb}
+use lib.ListN.{length, getD, drop}
+use Rattle.lists.specs.Lists.{count}
+use Rattle.packed.specs.Packed.{nodeCount, graphOf}
+use Rattle.packed.specs.Refusals.{first, reading}
+use Rattle.packed.specs.Settings.{Settings, settingsOf}
+use Rattle.packed.specs.Paper.{numberOf, summary, readPaper}
+use Rattle.packed.specs.declared.Refusal.{Refusal}
+use Rattle.packed.specs.declared.ReadAnswer.{ReadAnswer}
+use Rattle.order.specs.Order.{nodeOrder}
+use Rattle.order.specs.Paper.{orderSays, orderPaper}
+use Rattle.order.specs.declared.OrderAnswer.{OrderAnswer}
+use Rattle.rules.specs.Task.{Task, taskOf, exchange}
+use Rattle.rules.specs.Search.{started, Answer, Found, None, Limit, Paused}
+use Rattle.rules.specs.Handed.{Handed, handed}
+use Rattle.rules.specs.Calls.{pairLines, StartSays, begun, startSays, ContinueSays, went, turnedAway, continueSays, CheckSays, yes, no, checkLines, CheckTells}
+use Rattle.rules.specs.Placement.{Placement}
+use Rattle.placements.specs.Listed.{listed}
+use Rattle.placements.specs.Calls.{unlimited, after, acceptedIn}
+use Rattle.placements.specs.Claims.{graphsAgree, Each, AtLeastOne, permutations, idPairs}
+use Rattle.promises.specs.Sessions.{Map, mapIn, image, shows, Ending, Answered, Refused′, Session, session}
+
+module _ (f₀ f₁ s : List ℕ) where
+  abbrev pub settings : Settings
+  settings = settingsOf s
+
+  abbrev pub search : Task
+  search = taskOf settings (graphOf f₀) (graphOf f₁)
+
+  -- Start answers a record: neither the files nor the settings are refused
+  abbrev pub Begins : Handed → Type 0
+  Begins h = startSays f₀ f₁ s ≡ begun h
+
+  abbrev pub CountsAgree : Type 0
+  CountsAgree = graphsAgree settings (graphOf f₀) (graphOf f₁) ≡ true
+
+  abbrev pub Places : (ℕ → ℕ) → Type 0
+  Places φ = Placement settings (graphOf f₀) (graphOf f₁) φ
+
+  -- the buffer that Continue needs
+  abbrev pub LongEnough : List ℕ → Type 0
+  LongEnough buffer = 2 * nodeCount f₁ ≤ length buffer
+
+  -- Found, with this map in the buffer
+  pub record Finds (m : Map) : Type 0 where
+    pub record₀ : Handed
+    pub record₁ : Handed
+    pub budget : ℕ
+    pub steps : ℕ
+    pub buffer₀ : List ℕ
+    pub buffer₁ : List ℕ
+    pub says : continueSays f₀ f₁ s record₀ budget buffer₀ ≡ went Found steps record₁ buffer₁
+    pub is : m ≡ mapIn (nodeCount f₁) buffer₁
+
+  -- a map that is a placement, its pairs in graph 1's node order, each graph-1 id once
+  pub record IsPlacement (m : Map) : Type 0 where
+    pub places : Places (image m)
+    pub in-order : map (λ p. p .1) m ≡ nodeOrder (settings .vf2pp) (graphOf f₁)
+    pub each-once : (v : ℕ) → v < nodeCount f₁ → count (λ w. eqb w v) (map (λ p. p .1) m) ≡ 1
+
+  -- the maps that the rules' search finds, from the empty path to its end, in its order
+  abbrev pub mapsOfRules : List Map
+  mapsOfRules = map (idPairs settings (graphOf f₀) (graphOf f₁)) (listed search)
+
+  -- (N0 + 2) times the sum of N0!/(N0-k)! for k from 0 to N1
+  abbrev pub mostSteps : ℕ
+  mostSteps = (nodeCount f₀ + 2) * permutations (nodeCount f₀) (nodeCount f₁)
+
+-- 1. Whatever the record, the budget and the limit, each map handed out is a placement; the rest of the buffer stays
+
+abbrev pub EveryMapIsAPlacement : Type 0
+EveryMapIsAPlacement =
+    (f₀ f₁ s : List ℕ) (h h′ : Handed) (budget steps : ℕ) (buffer buffer′ : List ℕ)
+    → continueSays f₀ f₁ s h budget buffer ≡ went Found steps h′ buffer′
+    → IsPlacement f₀ f₁ s (mapIn (nodeCount f₁) buffer′)
+    × (length buffer′ ≡ length buffer)
+    × (drop (2 * nodeCount f₁) buffer′ ≡ drop (2 * nodeCount f₁) buffer)
