@@ -1,1 +1,3 @@
 pub mod Files
+pub mod Bytes
+pub mod Continued
