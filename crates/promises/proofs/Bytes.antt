@@ -65,7 +65,7 @@ handed-zero path =
 pub accepted-handed : (t : Task) (r : Record) → acceptedRecord t r ≡ true → acceptedHanded t (handed r) ≡ true
 accepted-handed t r e = and-intro (handed-zero (r .path)) (ap (acceptedRecord t) (record-again r) ∙ e)
 
-chosen-length : (d : ℕ) (path : List ℕ) → length (chosen d path) ≡ d
+pub chosen-length : (d : ℕ) (path : List ℕ) → length (chosen d path) ≡ d
 unfolding chosen
 chosen-length zero path = refl
 chosen-length (suc d) path = ap suc (chosen-length d path)
@@ -89,15 +89,15 @@ zeros (suc k) zero (x ∷ path) e h =
 zeros (suc k) (suc d) (x ∷ path) e h = zeros (suc k) d path (omega arith) (λ j l m. h (suc j) (omega arith) (omega arith))
 
 -- bytes that are zero beyond the depth are those of the positions chosen
+filled-again : (n d : ℕ) (path : List ℕ) → length path ≡ n → d ≤ n → ((i : ℕ) → d ≤ i → i < length path → getD path i 0 ≡ 0)
+    → inOrder (chosen d path) ++ replicate (n - length (chosen d path)) 0 ≡ path
+filled-again n d path long most beyond =
+    rw (chosen-length d path, in-order-chosen d path (omega arith), zeros (n - d) d path (omega arith) beyond) (take-append-drop d path)
+
 pub bytes-again : (d : ℕ) (path : List ℕ) → length path ≡ 128 → d ≤ 128 → zeroBeyond d path ≡ true → pathBytes (chosen d path) ≡ path
 bytes-again d path long most zero′ =
-    let beyond : ((i : ℕ) → d ≤ i → i < length path → getD path i 0 ≡ 0) =
-    λ i l m. eqb-true (getD path i 0) 0 (all-elim (λ i. eqb (getD path i 0) 0) (128 - d) d zero′ i l (omega arith)) in
-    let left : 128 - length (chosen d path) ≡ 128 - d = omega (arith, chosen-length d path) in
-    ap (λ l. l ++ replicate (128 - length (chosen d path)) 0) (in-order-chosen d path (omega arith))
-    ∙ ap (λ k. take d path ++ replicate k 0) left
-    ∙ ap (λ l. take d path ++ l) (zeros (128 - d) d path (omega arith) beyond)
-    ∙ take-append-drop d path
+    filled-again 128 d path long most
+    (λ i l m. eqb-true (getD path i 0) 0 (all-elim (λ i. eqb (getD path i 0) 0) (128 - d) d zero′ i l (omega arith)))
 
 pub handed-length : (path : List ℕ) → length path ≤ 128 → length (pathBytes path) ≡ 128
 handed-length path h =

@@ -24,7 +24,7 @@ use Rattle.rules.specs.Handed.{Handed, recordOf, handed, acceptedHanded}
 use Rattle.rules.specs.Calls.{pairLines, idPairs, filled, ContinueSays, went, turnedAway, wentOn, orWent, recordLines, continueSays}
 use Rattle.placements.specs.Claims as claims
 use Rattle.promises.specs.Sessions.{mapIn}
-use Rattle.promises.specs.Promises.{search, LongEnough}
+use Rattle.promises.specs.Promises.{search, LongEnough, refusalOf}
 use Rattle.promises.proofs.Files.{none-of-both, none-of-cons, none-for-cons, none-of-nil}
 use Rattle.promises.proofs.Bytes.{ids, map-read, pairs-length, written-rest, written-length}
 
@@ -94,6 +94,14 @@ module _ (f₀ f₁ s : List ℕ) where
             → orWent o (settingsOf s) (graphOf f₀) (graphOf f₁) h budget buffer ≡ went a n h′ buffer′
             → Goes h buffer × (went-on ≡ went a n h′ buffer′)
         by-first none q e = (lines-none q, e)
+        by-first (some r) q e = let z : _≡_ {A = ℕ} 0 1 = cc in absurd (omega arith)
+
+    pub goes-unless : refusalOf (continueSays f₀ f₁ s h budget buffer) ≡ none → Goes h buffer
+    goes-unless e = by-first (first tableLines) refl e
+      where
+        by-first : (o : Option Refused) → first tableLines ≡ o
+            → refusalOf (orWent o (settingsOf s) (graphOf f₀) (graphOf f₁) h budget buffer) ≡ none → Goes h buffer
+        by-first none q e = lines-none q
         by-first (some r) q e = let z : _≡_ {A = ℕ} 0 1 = cc in absurd (omega arith)
 
 pub went-parts : (a b : Answer) (n m : ℕ) (h k : Handed) (x y : List ℕ) → went a n h x ≡ went b m k y

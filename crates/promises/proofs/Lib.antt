@@ -2,3 +2,5 @@ pub mod Files
 pub mod Bytes
 pub mod Continued
 pub mod Maps
+pub mod Sessions
+pub mod Records

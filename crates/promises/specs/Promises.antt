@@ -10,7 +10,7 @@ use lib.Dec.{eqb, ltb}
 use lib.ListN.{length, getD, drop}
 use Rattle.lists.specs.Lists.{count}
 use Rattle.packed.specs.Packed.{nodeCount, graphOf}
-use Rattle.packed.specs.Refusals.{first, reading}
+use Rattle.packed.specs.Refusals.{Refused, first, reading}
 use Rattle.packed.specs.Settings.{Settings, settingsOf}
 use Rattle.packed.specs.Paper.{numberOf, summary, readPaper}
 use Rattle.packed.specs.declared.Refusal.{Refusal}
@@ -83,3 +83,32 @@ EveryMapIsAPlacement =
     → IsPlacement f₀ f₁ s (mapIn (nodeCount f₁) buffer′)
     × (length buffer′ ≡ length buffer)
     × (drop (2 * nodeCount f₁) buffer′ ≡ drop (2 * nodeCount f₁) buffer)
+
+-- 8. A record that is handed out is accepted by the next call; the records that are accepted are those that the search passes
+
+-- the refusal, if a call turns its input away
+abbrev pub refusalOf : ContinueSays → Option Refused
+refusalOf (went answer steps h buffer) = none
+refusalOf (turnedAway r h buffer) = some r
+
+module _ (f₀ f₁ s : List ℕ) (h : Handed) where
+  -- the next Continue with the same files and settings doesn't refuse with 9, and with a buffer long enough it doesn't refuse at all
+  pub record AcceptedNext : Type 0 where
+    pub not-nine : (budget : ℕ) (buffer : List ℕ) (r : Refused) → refusalOf (continueSays f₀ f₁ s h budget buffer) ≡ some r → r .number ≡ 9 → ⊥
+    pub goes : (budget : ℕ) (buffer : List ℕ) → LongEnough f₀ f₁ s buffer → refusalOf (continueSays f₀ f₁ s h budget buffer) ≡ none
+
+  -- after this many steps from Start, the search without a limit has depth, path and top of this record
+  pub record PassedAfter (steps : ℕ) : Type 0 where
+    pub within : steps ≤ mostSteps f₀ f₁ s
+    pub same-depth : handed (after (unlimited (search f₀ f₁ s)) steps started) .depth ≡ h .depth
+    pub same-path : handed (after (unlimited (search f₀ f₁ s)) steps started) .path ≡ h .path
+    pub same-top : handed (after (unlimited (search f₀ f₁ s)) steps started) .top ≡ h .top
+
+pub record RecordsMeanSomething : Type 0 where
+  pub of-start : (f₀ f₁ s : List ℕ) (h : Handed) → Begins f₀ f₁ s h → AcceptedNext f₀ f₁ s h
+  pub of-continue : (f₀ f₁ s : List ℕ) (h h′ : Handed) (budget steps : ℕ) (answer : Answer) (buffer buffer′ : List ℕ)
+      → continueSays f₀ f₁ s h budget buffer ≡ went answer steps h′ buffer′ → AcceptedNext f₀ f₁ s h′
+  -- the accepted count aside; a path has 128 bytes
+  pub passed-exactly : (f₀ f₁ s : List ℕ) (h₀ : Handed) → Begins f₀ f₁ s h₀ → CountsAgree f₀ f₁ s
+      → (h : Handed) (budget : ℕ) (buffer : List ℕ) → length (h .path) ≡ 128 → LongEnough f₀ f₁ s buffer
+      → (refusalOf (continueSays f₀ f₁ s h budget buffer) ≡ none) ↔ ((steps : ℕ) × PassedAfter f₀ f₁ s h steps)
