@@ -4,3 +4,4 @@ pub mod Continued
 pub mod Maps
 pub mod Sessions
 pub mod Records
+pub mod Listing

@@ -1,6 +1,6 @@
 -- What the outer calls promise of files and node ids (document 01, all of it), each promise a statement by itself. Files, settings,
 -- maps and buffers are lists of bytes; what the calls answer stands in the rules' `Calls`, sessions of them in `Sessions`.
-use Prim.Native.Nat.{ℕ, suc, _+_, _*_, _≤_, _<_}
+use Prim.Native.Nat.{ℕ, suc, _+_, _*_, _≤_, _<_, min}
 use mathlib.Core.Bool.{Bool, true, false, cond}
 use mathlib.Core.List.{List, [], _∷_, _++_, map}
 use mathlib.Core.Logic.{_↔_}
@@ -83,6 +83,87 @@ EveryMapIsAPlacement =
     → IsPlacement f₀ f₁ s (mapIn (nodeCount f₁) buffer′)
     × (length buffer′ ≡ length buffer)
     × (drop (2 * nodeCount f₁) buffer′ ≡ drop (2 * nodeCount f₁) buffer)
+
+-- 2. The listing: Start's record, no limit, counts that agree, and Continue called with any budgets until it answers None
+
+module _ (f₀ f₁ s : List ℕ) where
+  -- every placement exactly once and nothing else, in the order of the rules
+  pub record HoldEveryPlacement (maps : List Map) : Type 0 where
+    pub all-place : Each (IsPlacement f₀ f₁ s) maps
+    pub each-once : (φ : ℕ → ℕ) → Places f₀ f₁ s φ → count (shows (nodeCount f₁) φ) maps ≡ 1
+    pub as-the-rules-order : maps ≡ mapsOfRules f₀ f₁ s
+
+  pub record ListingFrom (h : Handed) : Type 0 where
+    -- it ends with None, and then the maps handed out are the listing
+    pub ends-whole : (budgets buffer : List ℕ) (e : Ending) → LongEnough f₀ f₁ s buffer → session f₀ f₁ s budgets h buffer .ending ≡ some e
+        → (e ≡ Answered None) × HoldEveryPlacement (session f₀ f₁ s budgets h buffer .maps)
+    -- before that, they are its first ones
+    pub first-maps : (budgets buffer : List ℕ) → LongEnough f₀ f₁ s buffer
+        → (rest : List Map) × (session f₀ f₁ s budgets h buffer .maps ++ rest ≡ mapsOfRules f₀ f₁ s)
+    -- budgets change neither the maps nor their order nor the ending, nor anything else of what all calls come to
+    pub budgets-alike : (budgets others buffer : List ℕ) (e e′ : Ending) → LongEnough f₀ f₁ s buffer
+        → session f₀ f₁ s budgets h buffer .ending ≡ some e → session f₀ f₁ s others h buffer .ending ≡ some e′
+        → session f₀ f₁ s budgets h buffer ≡ session f₀ f₁ s others h buffer
+    pub steps-within : (budgets buffer : List ℕ) → LongEnough f₀ f₁ s buffer
+        → session f₀ f₁ s budgets h buffer .steps ≤ mostSteps f₀ f₁ s
+    -- with budgets of 1 or more the ending comes, after at most that many calls and one
+    pub ending-comes : (budgets buffer : List ℕ) → LongEnough f₀ f₁ s buffer → AtLeastOne budgets → mostSteps f₀ f₁ s < length budgets
+        → session f₀ f₁ s budgets h buffer .ending ≡ some (Answered None)
+    -- the accepted count is the number of pairs accepted; it stays at 4,294,967,295
+    pub accepted-counted : (budgets buffer : List ℕ) → LongEnough f₀ f₁ s buffer
+        → session f₀ f₁ s budgets h buffer .handed′ .accepted
+        ≡ min (acceptedIn (unlimited (search f₀ f₁ s)) (session f₀ f₁ s budgets h buffer .steps) started) 4294967295
+
+pub record TheListing : Type 0 where
+  pub all-placements : (f₀ f₁ s : List ℕ) (h : Handed) → Begins f₀ f₁ s h → settings f₀ f₁ s .limit ≡ none → CountsAgree f₀ f₁ s
+      → ListingFrom f₀ f₁ s h
+  -- if the counts don't agree, there is no map: the first answer is None
+  pub no-map : (f₀ f₁ s : List ℕ) (h : Handed) → Begins f₀ f₁ s h → (CountsAgree f₀ f₁ s → ⊥)
+      → (budget : ℕ) (buffer : List ℕ) → LongEnough f₀ f₁ s buffer → continueSays f₀ f₁ s h budget buffer ≡ went None 0 h buffer
+
+-- 3. With a limit: the first maps of the listing without one, and Limit exactly where that accepts more pairs
+
+abbrev pub withoutLimit : Settings → Settings
+withoutLimit s =
+    record {
+      greater = s .greater;
+      vf2pp = s .vf2pp;
+      induced = s .induced;
+      nodeLabels = s .nodeLabels;
+      edgeLabels = s .edgeLabels;
+      limit = none;
+    }
+
+module _ (f₀ f₁ s : List ℕ) where
+  -- sessions with a limit, beside a whole one without
+  pub record CutFrom (whole : Session) (limit : ℕ) (h : Handed) : Type 0 where
+    pub first-maps : (budgets buffer : List ℕ) → LongEnough f₀ f₁ s buffer
+        → (rest : List Map) × (session f₀ f₁ s budgets h buffer .maps ++ rest ≡ whole .maps)
+    pub ending : (budgets buffer : List ℕ) (e : Ending) → LongEnough f₀ f₁ s buffer → session f₀ f₁ s budgets h buffer .ending ≡ some e
+        → e ≡ Answered (cond (ltb limit (whole .handed′ .accepted)) Limit None)
+    pub whole-at-none : (budgets buffer : List ℕ) → LongEnough f₀ f₁ s buffer
+        → session f₀ f₁ s budgets h buffer .ending ≡ some (Answered None)
+        → (session f₀ f₁ s budgets h buffer .maps ≡ whole .maps) × (session f₀ f₁ s budgets h buffer .steps ≡ whole .steps)
+    pub one-more-at-limit : (budgets buffer : List ℕ) → LongEnough f₀ f₁ s buffer
+        → session f₀ f₁ s budgets h buffer .ending ≡ some (Answered Limit)
+        → session f₀ f₁ s budgets h buffer .handed′ .accepted ≡ suc limit
+    -- the accepted count is the number of pairs accepted
+    pub accepted-counted : (budgets buffer : List ℕ) → LongEnough f₀ f₁ s buffer
+        → session f₀ f₁ s budgets h buffer .handed′ .accepted
+        ≡ acceptedIn (unlimited (search f₀ f₁ s)) (session f₀ f₁ s budgets h buffer .steps) started
+    pub ending-comes : (budgets buffer : List ℕ) → LongEnough f₀ f₁ s buffer → AtLeastOne budgets → mostSteps f₀ f₁ s < length budgets
+        → session f₀ f₁ s budgets h buffer .ending ≡ some (Answered (cond (ltb limit (whole .handed′ .accepted)) Limit None))
+    pub budgets-alike : (budgets others buffer : List ℕ) (e e′ : Ending) → LongEnough f₀ f₁ s buffer
+        → session f₀ f₁ s budgets h buffer .ending ≡ some e → session f₀ f₁ s others h buffer .ending ≡ some e′
+        → session f₀ f₁ s budgets h buffer ≡ session f₀ f₁ s others h buffer
+
+-- s has a limit, and s′ is s but for it
+abbrev pub WithALimit : Type 0
+WithALimit =
+    (f₀ f₁ s s′ : List ℕ) (h h′ : Handed) (limit : ℕ) → Begins f₀ f₁ s h → settings f₀ f₁ s .limit ≡ some limit
+    → Begins f₀ f₁ s′ h′ → settings f₀ f₁ s′ ≡ withoutLimit (settings f₀ f₁ s) → CountsAgree f₀ f₁ s
+    → (budgets buffer : List ℕ) → LongEnough f₀ f₁ s′ buffer → session f₀ f₁ s′ budgets h′ buffer .ending ≡ some (Answered None)
+    → CutFrom f₀ f₁ s (session f₀ f₁ s′ budgets h′ buffer) limit h
 
 -- 8. A record that is handed out is accepted by the next call; the records that are accepted are those that the search passes
 
