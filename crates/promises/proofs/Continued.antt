@@ -1,6 +1,6 @@
 -- Continue over bytes is the rules' run over the record handed in, where neither files, settings, record nor buffer are turned away;
 -- and what it fills in is the map over ids that the path shows.
-use Prim.Native.Nat.{ℕ, _*_, _≤_}
+use Prim.Native.Nat.{ℕ, _+_, _*_, _≤_}
 use mathlib.Core.Bool.{Bool, true, false}
 use mathlib.Core.List.{List, [], _∷_, _++_, map}
 use mathlib.Core.Option.{Option, none, some}
@@ -23,8 +23,9 @@ use Rattle.rules.specs.Search.{Answer, Found, Record, mapOf, continue}
 use Rattle.rules.specs.Handed.{Handed, recordOf, handed, acceptedHanded}
 use Rattle.rules.specs.Calls.{pairLines, idPairs, filled, ContinueSays, went, turnedAway, wentOn, orWent, recordLines, continueSays}
 use Rattle.placements.specs.Claims as claims
+use Rattle.placements.specs.Claims.{permutations}
 use Rattle.promises.specs.Sessions.{mapIn}
-use Rattle.promises.specs.Promises.{search, LongEnough, refusalOf}
+use Rattle.promises.specs.Promises.{search, LongEnough, mostSteps, refusalOf}
 use Rattle.promises.proofs.Files.{none-of-both, none-of-cons, none-for-cons, none-of-nil}
 use Rattle.promises.proofs.Bytes.{ids, map-read, pairs-length, written-rest, written-length}
 
@@ -39,6 +40,9 @@ module _ (f₀ f₁ s : List ℕ) where
   pub task-nodes₁ : nodes (t .graph₁) ≡ nodeCount f₁
   unfolding taskOf
   task-nodes₁ = order-keeps-nodes (settingsOf s .vf2pp) (graphOf f₁) ∙ nodes-of-graph f₁
+
+  pub most-steps : (nodes (t .graph₀) + 2) * permutations (nodes (t .graph₀)) (nodes (t .graph₁)) ≡ mostSteps f₀ f₁ s
+  most-steps = rw (task-nodes₀, task-nodes₁)
 
   -- the bytes of a map, and the map read off them
   abbrev pub mapBytes : List ℕ → List ℕ

@@ -5,3 +5,4 @@ pub mod Maps
 pub mod Sessions
 pub mod Records
 pub mod Listing
+pub mod Limits

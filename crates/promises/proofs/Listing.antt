@@ -35,16 +35,16 @@ use Rattle.placements.proofs.Listing.{no-map, listing, limited, first-calls}
 use Rattle.promises.specs.Sessions.{Map, image, shows, Ending, Answered, Session, session}
 use Rattle.promises.specs.Promises.{settings, search, Begins, CountsAgree, Places, LongEnough, IsPlacement, mapsOfRules, mostSteps, HoldEveryPlacement, ListingFrom, TheListing, withoutLimit, CutFrom, WithALimit}
 use Rattle.promises.proofs.Files.{NotRefused, not-refused, of-one-kind, begins}
-use Rattle.promises.proofs.Continued.{t, task-nodes₀, task-nodes₁, mapOfPath}
+use Rattle.promises.proofs.Continued.{t, most-steps, mapOfPath}
 use Rattle.promises.proofs.Maps.{counts-of-task, listing-ids, path-image, path-placement}
 use Rattle.promises.proofs.Sessions.{endings, refilled, seen, continue-handed, session-seen}
 
 -- an ending over bytes is one over the rules
-ending-of : (o : Option Answer) (e : Ending) → endings o ≡ some e → (a : Answer) × (o ≡ some a) × (e ≡ Answered a)
+pub ending-of : (o : Option Answer) (e : Ending) → endings o ≡ some e → (a : Answer) × (o ≡ some a) × (e ≡ Answered a)
 ending-of none e k = let z : _≡_ {A = ℕ} 0 1 = cc in absurd (omega arith)
 ending-of (some a) e k = let z : Answered a ≡ e = cc k in (a, refl, sym z)
 
-ending-same : (o : Option Answer) (a : Answer) → endings o ≡ some (Answered a) → o ≡ some a
+pub ending-same : (o : Option Answer) (a : Answer) → endings o ≡ some (Answered a) → o ≡ some a
 ending-same none a k = let z : _≡_ {A = ℕ} 0 1 = cc in absurd (omega arith)
 ending-same (some b) a k = let z : b ≡ a = cc k in ap some z
 
@@ -83,19 +83,12 @@ module _ (f₀ f₁ s : List ℕ) where
           as-the-rules-order = refl;
         }
 
-  task-settings : t f₀ f₁ s .settings ≡ settingsOf s
-  unfolding taskOf
-  task-settings = refl
-
   pub limit-most : NotRefused f₀ f₁ s → LimitMost (t f₀ f₁ s)
   unfolding taskOf
   limit-most n limit e = settings-ensure s limit (n .settings-good) e
 
-  pub most-steps : (nodes (t f₀ f₁ s .graph₀) + 2) * permutations (nodes (t f₀ f₁ s .graph₀)) (nodes (t f₀ f₁ s .graph₁)) ≡ mostSteps f₀ f₁ s
-  most-steps = rw (task-nodes₀ f₀ f₁ s, task-nodes₁ f₀ f₁ s)
-
   pub steps-most : stepsOf (t f₀ f₁ s) ≤ mostSteps f₀ f₁ s
-  steps-most = omega (arith, steps-within (t f₀ f₁ s), most-steps)
+  steps-most = omega (arith, steps-within (t f₀ f₁ s), most-steps f₀ f₁ s)
 
   module _ (h : Handed) (b : Begins f₀ f₁ s h) where
     pub begun-free : NotRefused f₀ f₁ s
@@ -134,11 +127,15 @@ module _ (f₀ f₁ s : List ℕ) where
             ∙ ap (map (mapOfPath f₀ f₁ s)) (r .1),
           )
 
-      listing-from : settings f₀ f₁ s .limit ≡ none → ListingFrom f₀ f₁ s h
+      pub rules-listing : settings f₀ f₁ s .limit ≡ none → Listing (t f₀ f₁ s)
       unfolding taskOf
+      rules-listing free =
+          listing (t f₀ f₁ s) (renumbered-placements (settingsOf s) (graphOf f₀) (graphOf f₁) (of-one-kind f₀ f₁ s begun-free) .sound)
+          task-agrees free
+
+      pub listing-from : settings f₀ f₁ s .limit ≡ none → ListingFrom f₀ f₁ s h
       listing-from free =
-          let sound = renumbered-placements (settingsOf s) (graphOf f₀) (graphOf f₁) (of-one-kind f₀ f₁ s begun-free) .sound in
-          let l : Listing (t f₀ f₁ s) = listing (t f₀ f₁ s) sound task-agrees free in
+          let l = rules-listing free in
           record {
             ends-whole = λ budgets buffer e long k.
                 let is = from-start budgets buffer long in
@@ -157,7 +154,7 @@ module _ (f₀ f₁ s : List ℕ) where
                 ∙ ap (λ c. seen f₀ f₁ s c buffer) (l .budgets-alike budgets others (a .0) (a′ .0) (a .1) (a′ .1))
                 ∙ sym other;
             steps-within = λ budgets buffer long.
-                rw (from-start budgets buffer long) (omega (arith, calls-first budgets .steps-within, most-steps));
+                rw (from-start budgets buffer long) (omega (arith, calls-first budgets .steps-within, most-steps f₀ f₁ s));
             ending-comes = λ budgets buffer long one more.
                 rw (from-start budgets buffer long, l .calls-end budgets one (omega (arith, steps-most)));
             accepted-counted = λ budgets buffer long. rw (from-start budgets buffer long) (calls-first budgets .accepted);

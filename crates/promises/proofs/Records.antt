@@ -27,7 +27,7 @@ use Rattle.placements.proofs.Records.{records}
 use Rattle.promises.specs.Promises.{LongEnough, mostSteps, refusalOf, AcceptedNext, PassedAfter, RecordsMeanSomething}
 use Rattle.promises.proofs.Files.{none-for-cons, none-of-nil, not-refused, files-accepted, begins}
 use Rattle.promises.proofs.Bytes.{accepted-handed, chosen-length, bytes-again}
-use Rattle.promises.proofs.Continued.{t, task-nodes₀, task-nodes₁, Goes, continue-goes, went-goes, went-parts, goes-unless}
+use Rattle.promises.proofs.Continued.{t, task-nodes₀, most-steps, Goes, continue-goes, went-goes, went-parts, goes-unless}
 
 module _ (f₀ f₁ s : List ℕ) (h : Handed) where
   -- with an accepted record only line 10 is left
@@ -89,9 +89,6 @@ module _ (f₀ f₁ s : List ℕ) (free : first (pairLines f₀ f₁ s) ≡ none
         files-accepted f₀ f₁ s (not-refused f₀ f₁ s free) .0 .nodes-most,
       )
 
-  most-steps : (nodes (t f₀ f₁ s .graph₀) + 2) * permutations (nodes (t f₀ f₁ s .graph₀)) (nodes (t f₀ f₁ s .graph₁)) ≡ mostSteps f₀ f₁ s
-  most-steps = rw (task-nodes₀ f₀ f₁ s, task-nodes₁ f₀ f₁ s)
-
   accepted-passed : length (h .path) ≡ 128 → acceptedHanded (t f₀ f₁ s) h ≡ true → (steps : ℕ) × PassedAfter f₀ f₁ s h steps
   accepted-passed long e =
       let zeros = and-left (zeroBeyond (h .depth) (h .path)) (acceptedRecord (t f₀ f₁ s) (recordOf h)) e in
@@ -99,7 +96,7 @@ module _ (f₀ f₁ s : List ℕ) (free : first (pairLines f₀ f₁ s) ≡ none
       let p = records (t f₀ f₁ s) .accepted-passed (recordOf h) good in (
         p .0,
         record {
-          within = omega (arith, p .1, steps-within (t f₀ f₁ s), most-steps);
+          within = omega (arith, p .1, steps-within (t f₀ f₁ s), most-steps f₀ f₁ s);
           same-depth = ap length (p .2) ∙ chosen-length (h .depth) (h .path);
           same-path = ap pathBytes (p .2) ∙ bytes-again (h .depth) (h .path) long (depth-most good) zeros;
           same-top = p .3;
