@@ -6,3 +6,4 @@ pub mod Sessions
 pub mod Records
 pub mod Listing
 pub mod Limits
+pub mod Symmetries

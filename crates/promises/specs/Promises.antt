@@ -10,8 +10,8 @@ use lib.Dec.{eqb, ltb}
 use lib.ListN.{length, getD, drop}
 use Rattle.lists.specs.Lists.{count}
 use Rattle.packed.specs.Packed.{nodeCount, graphOf}
-use Rattle.packed.specs.Refusals.{Refused, first, reading}
-use Rattle.packed.specs.Settings.{Settings, settingsOf}
+use Rattle.packed.specs.Refusals.{Refused, first, fileLines, reading}
+use Rattle.packed.specs.Settings.{Settings, settingsOf, settingsLines}
 use Rattle.packed.specs.Paper.{numberOf, summary, readPaper}
 use Rattle.packed.specs.declared.Refusal.{Refusal}
 use Rattle.packed.specs.declared.ReadAnswer.{ReadAnswer}
@@ -164,6 +164,67 @@ WithALimit =
     → Begins f₀ f₁ s′ h′ → settings f₀ f₁ s′ ≡ withoutLimit (settings f₀ f₁ s) → CountsAgree f₀ f₁ s
     → (budgets buffer : List ℕ) → LongEnough f₀ f₁ s′ buffer → session f₀ f₁ s′ budgets h′ buffer .ending ≡ some (Answered None)
     → CutFrom f₀ f₁ s (session f₀ f₁ s′ budgets h′ buffer) limit h
+
+-- 4. A block on a module, and the module on a board
+
+module _ (f₀ f₁ s : List ℕ) where
+  -- φ stands exactly once in the listing
+  pub record ListedOnce (φ : ℕ → ℕ) : Type 0 where
+    pub not-refused : Begins f₀ f₁ s (handed started)
+    pub counts-agree : CountsAgree f₀ f₁ s
+    pub by-the-rules : count (shows (nodeCount f₁) φ) (mapsOfRules f₀ f₁ s) ≡ 1
+    pub in-each-session : (budgets buffer : List ℕ) → LongEnough f₀ f₁ s buffer
+        → session f₀ f₁ s budgets (handed started) buffer .ending ≡ some (Answered None)
+        → count (shows (nodeCount f₁) φ) (session f₀ f₁ s budgets (handed started) buffer .maps) ≡ 1
+
+-- a map of the block on the module, followed by one of the module on the board, is listed for the block on the board
+abbrev pub ChainedPlacements : Type 0
+ChainedPlacements =
+    (board module′ block s : List ℕ) (inner outer : Map) → Finds module′ block s inner → Finds board module′ s outer
+    → ListedOnce board block s (λ v. image outer (image inner v))
+
+-- and whatever a session hands out, Continue finds
+abbrev pub SessionsFind : Type 0
+SessionsFind = (f₀ f₁ s budgets buffer : List ℕ) (h : Handed) → Each (Finds f₀ f₁ s) (session f₀ f₁ s budgets h buffer .maps)
+
+-- 5. Each file on itself; and, under Equal, the reverse of a map for the files exchanged
+
+pub record IdentityAndReverse : Type 0 where
+  pub identity : (f s : List ℕ) → first (fileLines 0 f) ≡ none → first (settingsLines s) ≡ none → ListedOnce f f s (λ v. v)
+  pub reverse : (f₀ f₁ s : List ℕ) (m : Map) → settings f₀ f₁ s .greater ≡ false → Finds f₀ f₁ s m
+      → ListedOnce f₁ f₀ s (image (map exchange m))
+
+-- 6. Check says yes exactly for a placement, and so for a map of the listing
+
+pub record CheckAgrees : Type 0 where
+  pub yes-exactly : (f₀ f₁ s map′ : List ℕ)
+      → CheckTells f₀ f₁ s map′ yes ↔ ((first (checkLines f₀ f₁ s map′) ≡ none) × Places f₀ f₁ s (λ v. getD map′ v 0))
+  pub no-exactly : (f₀ f₁ s map′ : List ℕ)
+      → CheckTells f₀ f₁ s map′ no ↔ ((first (checkLines f₀ f₁ s map′) ≡ none) × (Places f₀ f₁ s (λ v. getD map′ v 0) → ⊥))
+  -- where the counts agree, one map of each whole session shows what Check says yes to, and no map what it says no to
+  pub yes-listed : (f₀ f₁ s map′ : List ℕ) (h : Handed) → first (checkLines f₀ f₁ s map′) ≡ none → Begins f₀ f₁ s h → CountsAgree f₀ f₁ s
+      → (budgets buffer : List ℕ) → LongEnough f₀ f₁ s buffer → session f₀ f₁ s budgets h buffer .ending ≡ some (Answered None)
+      → CheckTells f₀ f₁ s map′ yes
+      ↔ (count (shows (nodeCount f₁) (λ v. getD map′ v 0)) (session f₀ f₁ s budgets h buffer .maps) ≡ 1)
+  pub no-listed : (f₀ f₁ s map′ : List ℕ) (h : Handed) → first (checkLines f₀ f₁ s map′) ≡ none → Begins f₀ f₁ s h → CountsAgree f₀ f₁ s
+      → (budgets buffer : List ℕ) → LongEnough f₀ f₁ s buffer → session f₀ f₁ s budgets h buffer .ending ≡ some (Answered None)
+      → CheckTells f₀ f₁ s map′ no
+      ↔ (count (shows (nodeCount f₁) (λ v. getD map′ v 0)) (session f₀ f₁ s budgets h buffer .maps) ≡ 0)
+
+-- 7. No second outcome satisfies what a call's contract says of it
+
+pub record OneOutcome : Type 0 where
+  pub read : (file : ℕ) (f : List ℕ) (a b : ReadAnswer) → readPaper a ≡ summary (reading file f) → readPaper b ≡ summary (reading file f) → a ≡ b
+  pub order : (f : List ℕ) (plusPlus : Bool) (buffer : List ℕ) (a b : OrderAnswer) (x y : List ℕ)
+      → orderPaper a x ≡ orderSays f plusPlus buffer → orderPaper b y ≡ orderSays f plusPlus buffer → (a ≡ b) × (x ≡ y)
+  pub start : (f₀ f₁ s : List ℕ) (a b : StartSays) → a ≡ startSays f₀ f₁ s → b ≡ startSays f₀ f₁ s → a ≡ b
+  pub continue : (f₀ f₁ s : List ℕ) (h : Handed) (budget : ℕ) (buffer : List ℕ) (a b : ContinueSays)
+      → a ≡ continueSays f₀ f₁ s h budget buffer → b ≡ continueSays f₀ f₁ s h budget buffer → a ≡ b
+  pub check : (f₀ f₁ s map′ : List ℕ) (a b : CheckSays) → CheckTells f₀ f₁ s map′ a → CheckTells f₀ f₁ s map′ b → a ≡ b
+  -- the paper's values tell the code's cases apart
+  pub refusals-apart : (r q : Refusal) → numberOf r ≡ numberOf q → r ≡ q
+  pub reads-apart : (a b : ReadAnswer) → readPaper a ≡ readPaper b → a ≡ b
+  pub orders-apart : (a b : OrderAnswer) (x y : List ℕ) → orderPaper a x ≡ orderPaper b y → (a ≡ b) × (x ≡ y)
 
 -- 8. A record that is handed out is accepted by the next call; the records that are accepted are those that the search passes
 

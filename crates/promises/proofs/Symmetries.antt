@@ -1,0 +1,148 @@
+-- Whatever is a placement of two files that are not refused and whose counts agree is listed once: chains, the identity, reverses.
+use Prim.Native.Nat.{ℕ, _<_}
+use mathlib.Core.Bool.{Bool, true, false}
+use mathlib.Core.List.{List, [], _∷_, _++_, map}
+use mathlib.Core.Option.{Option, none, some}
+use mathlib.Core.Path.{_≡_, refl, sym, _∙_, ap, subst}
+use native.Mathlib.Omega.{arith}
+use lib.ListN.{length}
+use Rattle.lists.specs.Lists.{count, member}
+use Rattle.lists.proofs.Tests.{and-intro}
+use Rattle.packed.specs.Graph.{Graph, nodes}
+use Rattle.packed.specs.Packed.{kind, nodeCount, graphOf}
+use Rattle.packed.specs.Refusals.{first, fileLines}
+use Rattle.packed.specs.Settings.{settingsOf, settingsLines}
+use Rattle.order.specs.Order.{nodeOrder}
+use Rattle.order.proofs.Once.{order-member, order-distinct}
+use Rattle.lists.proofs.Distinct.{distinct-below}
+use Rattle.rules.specs.Task.{Task, exchange}
+use Rattle.rules.specs.Search.{Answer, Found, None, Limit, started}
+use Rattle.rules.specs.Handed.{Handed, handed}
+use Rattle.rules.specs.Calls.{pairLines, startSays, begun, orBegun}
+use Rattle.rules.specs.Placement.{Placement}
+use Rattle.placements.specs.Listed.{listed}
+use Rattle.placements.specs.Calls.{Called}
+use Rattle.placements.specs.Claims.{graphsAgree, reverse, called, idImage}
+use Rattle.placements.proofs.Called.{Ends, ends-open, ends-none, ends-limit, calls-end}
+use Rattle.placements.proofs.Symmetries.{identity, chained, counts-chained, reversed}
+use Rattle.placements.proofs.Ids.{counts-own, counts-back}
+use Rattle.promises.specs.Sessions.{Map, mapIn, image, shows, Answered, session}
+use Rattle.promises.specs.Promises.{settings, Begins, CountsAgree, Places, LongEnough, Finds, IsPlacement, mapsOfRules, ListedOnce, ChainedPlacements, IdentityAndReverse}
+use Rattle.promises.proofs.Files.{NotRefused, not-refused, no-line, of-one-kind, file-either, none-of-cons}
+use Rattle.promises.proofs.Bytes.{showing, image-back}
+use Rattle.promises.proofs.Continued.{t, mapOfPath}
+use Rattle.promises.proofs.Maps.{placement-same, path-shows, Found′, found, found-map, found-placement}
+use Rattle.promises.proofs.Listing.{ending-same, limit-most, begun-free, from-start, task-agrees, holds-every-placement}
+
+none-limit : None ≡ Limit → ⊥
+none-limit e = let z : _≡_ {A = ℕ} 0 1 = cc in omega arith
+
+listed-at-none : (t : Task) (budgets : List ℕ) (w : Called t) → Ends t budgets [] 0 w → w .ending ≡ some None → w .maps ≡ listed t
+listed-at-none t budgets w (ends-open a s c p q h) e = let z : _≡_ {A = ℕ} 0 1 = cc in absurd (omega arith)
+listed-at-none t budgets w (ends-none a d q x y z v) e = d
+listed-at-none t budgets w (ends-limit a s c p q) e = let k : None ≡ Limit = cc in absurd (none-limit k)
+
+module _ (f₀ f₁ s : List ℕ) where
+  -- with a limit or without, a session that ends with None has handed out the whole listing
+  pub whole-session : (h : Handed) → Begins f₀ f₁ s h → CountsAgree f₀ f₁ s → (budgets buffer : List ℕ) → LongEnough f₀ f₁ s buffer
+      → session f₀ f₁ s budgets h buffer .ending ≡ some (Answered None) → session f₀ f₁ s budgets h buffer .maps ≡ mapsOfRules f₀ f₁ s
+  whole-session h b agreed budgets buffer long k =
+      let is = from-start f₀ f₁ s h b budgets buffer long in
+      let c = called (t f₀ f₁ s) budgets in
+      let ended = ending-same (c .ending) None (sym (ap (λ z. z .ending) is) ∙ k) in
+      let all = calls-end (t f₀ f₁ s) (limit-most f₀ f₁ s (begun-free f₀ f₁ s h b)) (task-agrees f₀ f₁ s h b agreed) budgets in
+      ap (λ z. z .maps) is ∙ ap (map (mapOfPath f₀ f₁ s)) (listed-at-none (t f₀ f₁ s) budgets c all ended)
+
+  start-begins : NotRefused f₀ f₁ s → Begins f₀ f₁ s (handed started)
+  start-begins n = ap orBegun (no-line f₀ f₁ s n)
+
+  pub listed-once : NotRefused f₀ f₁ s → CountsAgree f₀ f₁ s → (φ : ℕ → ℕ) → Places f₀ f₁ s φ → ListedOnce f₀ f₁ s φ
+  listed-once n agreed φ p =
+      let once = holds-every-placement f₀ f₁ s n agreed .each-once φ p in
+      record {
+        not-refused = start-begins n;
+        counts-agree = agreed;
+        by-the-rules = once;
+        in-each-session = λ budgets buffer long k. rw (whole-session (handed started) (start-begins n) agreed budgets buffer long k) once;
+      }
+
+  -- what a call that finds a map says of it
+  module _ (m : Map) (f : Finds f₀ f₁ s m) where
+    pub behind : Found′ f₀ f₁ s (f .buffer₀) (f .buffer₁)
+    behind = found f₀ f₁ s (f .record₀) (f .record₁) (f .budget) (f .steps) (f .buffer₀) (f .buffer₁) (f .says)
+
+    pub finds-placement : IsPlacement f₀ f₁ s m
+    finds-placement = rw (f .is) (found-placement f₀ f₁ s (f .buffer₀) (f .buffer₁) behind)
+
+    pub finds-path : m ≡ mapOfPath f₀ f₁ s (behind .path)
+    finds-path = f .is ∙ found-map f₀ f₁ s (f .buffer₀) (f .buffer₁) behind
+
+pub chained-placements : ChainedPlacements
+chained-placements f₀ f₁ f₂ s inner outer e f =
+    let i = behind f₁ f₂ s inner e in
+    let o = behind f₀ f₁ s outer f in
+    listed-once f₀ f₂ s
+    (record {
+      no-line₀ = o .not-refused′ .no-line₀;
+      no-line₁ = i .not-refused′ .no-line₁;
+      kinds = o .not-refused′ .kinds ∙ i .not-refused′ .kinds;
+      settings-good = i .not-refused′ .settings-good;
+    })
+    (counts-chained (settingsOf s) (graphOf f₀) (graphOf f₁) (graphOf f₂) (o .agreed) (i .agreed))
+    (λ v. image outer (image inner v))
+    (chained (settingsOf s) (graphOf f₀) (graphOf f₁) (graphOf f₂) (image outer) (image inner) (finds-placement f₀ f₁ s outer f .places)
+    (finds-placement f₁ f₂ s inner e .places))
+
+exchanged-files : (f₀ f₁ s : List ℕ) → NotRefused f₀ f₁ s → NotRefused f₁ f₀ s
+exchanged-files f₀ f₁ s n =
+    record {
+      no-line₀ = file-either 1 0 f₁ (n .no-line₁);
+      no-line₁ = file-either 0 1 f₀ (n .no-line₀);
+      kinds = sym (n .kinds);
+      settings-good = n .settings-good;
+    }
+
+-- the pairs of a map exchanged are the map turned round
+module _ (f₀ f₁ s : List ℕ) (n : NotRefused f₀ f₁ s) (agreed : CountsAgree f₀ f₁ s) (equal : settings f₀ f₁ s .greater ≡ false) (path : List ℕ) where
+  abbrev g₀ : Graph
+  g₀ = graphOf f₀
+
+  abbrev g₁ : Graph
+  g₁ = graphOf f₁
+
+  abbrev φ : ℕ → ℕ
+  φ = idImage (settingsOf s) g₀ g₁ path
+
+  abbrev order₁ : List ℕ
+  order₁ = nodeOrder (settingsOf s .vf2pp) g₁
+
+  exchanged-places : Places f₀ f₁ s φ → Places f₁ f₀ s (image (map exchange (mapOfPath f₀ f₁ s path)))
+  exchanged-places p =
+      let r = reversed (settingsOf s) g₀ g₁ φ equal (of-one-kind f₀ f₁ s n) agreed p in
+      placement-same (settingsOf s) g₁ g₀ (reverse (nodes g₁) φ) (image (map exchange (mapOfPath f₀ f₁ s path)))
+      (λ a l.
+      let w = reverse (nodes g₁) φ a in
+      sym
+      (ap (λ m. image (map exchange m) a) (path-shows f₀ f₁ s n agreed path)
+      ∙ image-back φ order₁ w a (order-member (settingsOf s .vf2pp) g₁ w (r .is-placement .within a l)) (r .there-and-back a l)
+      (λ v k m.
+      sym (r .back-and-there v (distinct-below (nodes g₁) order₁ (order-distinct (settingsOf s .vf2pp) g₁) v m))
+      ∙ ap (reverse (nodes g₁) φ) k)))
+      (r .is-placement)
+
+pub identity-and-reverse : IdentityAndReverse
+unfolding settingsLines
+identity-and-reverse =
+    record {
+      identity = λ f s e g.
+          listed-once f f s
+          (record { no-line₀ = e; no-line₁ = file-either 0 1 f e; kinds = refl; settings-good = none-of-cons 8 0 _ _ g .0 })
+          (counts-own (settingsOf s) (graphOf f)) (λ v. v) (identity (settingsOf s) (graphOf f));
+      reverse = λ f₀ f₁ s m equal e.
+          let f = behind f₀ f₁ s m e in
+          subst (λ m. ListedOnce f₁ f₀ s (image (map exchange m))) (sym (finds-path f₀ f₁ s m e))
+          (listed-once f₁ f₀ s (exchanged-files f₀ f₁ s (f .not-refused′))
+          (counts-back (settingsOf s) (graphOf f₀) (graphOf f₁) equal (f .agreed))
+          (image (map exchange (mapOfPath f₀ f₁ s (f .path))))
+          (exchanged-places f₀ f₁ s (f .not-refused′) (f .agreed) equal (f .path) (f .places)));
+    }
