@@ -7,3 +7,5 @@ pub mod Records
 pub mod Listing
 pub mod Limits
 pub mod Symmetries
+pub mod Checks
+pub mod Outcomes

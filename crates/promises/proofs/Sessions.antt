@@ -13,12 +13,13 @@ use Rattle.packed.specs.Settings.{settingsOf}
 use Rattle.order.specs.Paper.{written}
 use Rattle.rules.specs.Search.{Answer, Found, None, Limit, Paused, Record, Went, run, continue, acceptedRecord}
 use Rattle.rules.specs.Handed.{Handed, recordOf, handed}
-use Rattle.rules.specs.Calls.{pairLines, filled, ContinueSays, went, wentOn, continueSays}
+use Rattle.rules.specs.Calls.{pairLines, filled, ContinueSays, went, turnedAway, wentOn, continueSays}
 use Rattle.placements.specs.Calls.{Called, after-call, last-call, calls}
+use Rattle.placements.specs.Claims.{Each}
 use Rattle.placements.proofs.Accepted.{accepted-stays}
 use Rattle.placements.proofs.Called.{calls-nil, calls-found, calls-paused, calls-none, calls-limit}
 use Rattle.promises.specs.Sessions.{mapIn, Ending, Answered, Session, before, over, andThen, session}
-use Rattle.promises.specs.Promises.{LongEnough}
+use Rattle.promises.specs.Promises.{LongEnough, Finds, SessionsFind}
 use Rattle.promises.proofs.Bytes.{record-again, accepted-handed, written-length}
 use Rattle.promises.proofs.Continued.{t, mapBytes, mapOfPath, map-bytes, map-read-off, continue-goes}
 
@@ -112,3 +113,25 @@ module _ (f₀ f₁ s : List ℕ) where
     pub session-seen : (budgets : List ℕ) → Seen budgets
     session-seen [] r buffer e long = session-nil (handed r) buffer ∙ ap (λ c. seen c buffer) (sym (calls-nil (t f₀ f₁ s) r))
     session-seen (b ∷ bs) r buffer e long = one-call b bs (session-seen bs) r buffer e long
+
+  -- whatever a session hands out, Continue finds
+  finds-then : (b : ℕ) (bs : List ℕ) → ((h : Handed) (buffer : List ℕ) → Each (Finds f₀ f₁ s) (session f₀ f₁ s bs h buffer .maps))
+      → (h : Handed) (buffer : List ℕ) (c : ContinueSays) → continueSays f₀ f₁ s h b buffer ≡ c
+      → Each (Finds f₀ f₁ s) (andThen (nodeCount f₁) c (session f₀ f₁ s bs) .maps)
+  finds-then b bs rest h buffer (went Found n h′ buffer′) e =
+      (
+        record { record₀ = h; record₁ = h′; budget = b; steps = n; buffer₀ = buffer; buffer₁ = buffer′; says = e; is = refl },
+        rest h′ buffer′,
+      )
+  finds-then b bs rest h buffer (went Paused n h′ buffer′) e = rest h′ buffer′
+  finds-then b bs rest h buffer (went None n h′ buffer′) e = tt
+  finds-then b bs rest h buffer (went Limit n h′ buffer′) e = tt
+  finds-then b bs rest h buffer (turnedAway r h′ buffer′) e = tt
+
+  each-found : (budgets : List ℕ) (h : Handed) (buffer : List ℕ) → Each (Finds f₀ f₁ s) (session f₀ f₁ s budgets h buffer .maps)
+  each-found [] h buffer = rw (session-nil h buffer) tt
+  each-found (b ∷ bs) h buffer =
+      rw (session-cons b bs h buffer) (finds-then b bs (each-found bs) h buffer (continueSays f₀ f₁ s h b buffer) refl)
+
+pub sessions-find : SessionsFind
+sessions-find f₀ f₁ s budgets buffer h = each-found f₀ f₁ s budgets h buffer
