@@ -1,13 +1,13 @@
 -- Records and maps as bytes: a record handed over and back is the same, and a map written into a buffer is what is read off it.
 use Prim.Native.Nat.{ℕ, zero, suc, _+_, _-_, _*_, _≤_, _<_}
-use mathlib.Core.Bool.{Bool, true, false, cond}
-use mathlib.Core.List.{List, [], _∷_, _++_, map, append-nil, append-assoc}
+use mathlib.Core.Bool.{true}
+use mathlib.Core.List.{List, [], _∷_, _++_, map, append-assoc}
 use mathlib.Core.Path.{_≡_, refl, sym, _∙_, ap}
 use native.Mathlib.Omega.{arith}
 use lib.Dec.{eqb}
 use lib.ListN.{length, getD, take, drop, replicate, length-append, length-drop, length-replicate, drop-of-length-le, take-append-drop}
-use borrow.Author.Tests.{eqb-true, eqb-false, eq-eqb}
-use Rattle.lists.specs.Lists.{from, member}
+use borrow.Author.Tests.{eqb-true, eq-eqb}
+use Rattle.lists.specs.Lists.{member}
 use Rattle.lists.proofs.Tests.{case, and-intro, never}
 use Rattle.lists.proofs.Laws.{member-nil, member-head, member-tail, member-cases, getD-zeros}
 use Rattle.packed.specs.Graph.{Graph}
@@ -16,7 +16,7 @@ use Rattle.order.specs.Order.{nodeOrder}
 use Rattle.order.specs.Paper.{written}
 use Rattle.rules.specs.Task.{Task, exchange}
 use Rattle.rules.specs.Search.{Record, acceptedRecord}
-use Rattle.rules.specs.Handed.{Handed, chosen, recordOf, inOrder, pathBytes, handed, zeroBeyond, acceptedHanded}
+use Rattle.rules.specs.Handed.{chosen, recordOf, inOrder, pathBytes, handed, zeroBeyond, acceptedHanded}
 use Rattle.rules.specs.Calls.{idPairs}
 use Rattle.placements.proofs.Tests.{all-intro, all-elim}
 use Rattle.promises.specs.Sessions.{Map, mapIn, image}

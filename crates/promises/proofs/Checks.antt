@@ -1,10 +1,10 @@
 -- Check says yes exactly for a placement, and so exactly for what one map of a whole session shows.
-use Prim.Native.Nat.{ℕ, _+_, _<_}
-use mathlib.Core.Bool.{Bool, true, false, cond}
+use Prim.Native.Nat.{ℕ}
+use mathlib.Core.Bool.{Bool, true, cond}
 use mathlib.Core.List.{List, [], _∷_}
 use mathlib.Core.Logic.{_↔_, inl, inr, ⊎-elim}
 use mathlib.Core.Option.{Option, none, some}
-use mathlib.Core.Path.{_≡_, refl, sym, _∙_, ap}
+use mathlib.Core.Path.{_≡_, refl, sym, _∙_}
 use native.Mathlib.Omega.{arith}
 use lib.Dec.{eqb}
 use lib.ListN.{getD}
@@ -22,7 +22,7 @@ use Rattle.rules.specs.Calls.{CheckSays, yes, no, rejected, checkLines, Propose
 use Rattle.placements.specs.Claims.{Each}
 use Rattle.placements.proofs.Tests.{all-elim}
 use Rattle.promises.specs.Sessions.{Map, image, shows, Answered, session}
-use Rattle.promises.specs.Promises.{Begins, CountsAgree, Places, LongEnough, IsPlacement, mapsOfRules, HoldEveryPlacement, CheckAgrees}
+use Rattle.promises.specs.Promises.{Begins, CountsAgree, Places, LongEnough, IsPlacement, HoldEveryPlacement, CheckAgrees}
 use Rattle.promises.proofs.Maps.{placement-same}
 use Rattle.promises.proofs.Listing.{begun-free, holds-every-placement}
 use Rattle.promises.proofs.Symmetries.{whole-session}
@@ -78,7 +78,7 @@ module _ (f₀ f₁ s : List ℕ) where
       (p .places)
 
   module _ (map′ : List ℕ) (h : Handed) (free : first (checkLines f₀ f₁ s map′) ≡ none) (b : Begins f₀ f₁ s h) (agreed : CountsAgree f₀ f₁ s)
-      (budgets buffer : List ℕ) (long : LongEnough f₀ f₁ s buffer)
+      (budgets buffer : List ℕ) (long : LongEnough f₁ buffer)
       (k : session f₀ f₁ s budgets h buffer .ending ≡ some (Answered None)) where
     abbrev φ : ℕ → ℕ
     φ v = getD map′ v 0

@@ -1,10 +1,10 @@
 -- Continue over bytes is the rules' run over the record handed in, where neither files, settings, record nor buffer are turned away;
 -- and what it fills in is the map over ids that the path shows.
-use Prim.Native.Nat.{ℕ, _+_, _*_, _≤_}
-use mathlib.Core.Bool.{Bool, true, false}
-use mathlib.Core.List.{List, [], _∷_, _++_, map}
+use Prim.Native.Nat.{ℕ, _+_, _*_}
+use mathlib.Core.Bool.{true}
+use mathlib.Core.List.{List, [], _++_}
 use mathlib.Core.Option.{Option, none, some}
-use mathlib.Core.Path.{_≡_, refl, sym, _∙_, ap}
+use mathlib.Core.Path.{_≡_, refl, _∙_, ap}
 use native.Mathlib.Omega.{arith}
 use lib.ListN.{length, length-map}
 use borrow.Author.Tests.{le-ltb, ltb-false, not-false}
@@ -19,15 +19,15 @@ use Rattle.packed.proofs.Accepted.{nodes-of-graph}
 use Rattle.order.specs.Paper.{written}
 use Rattle.order.proofs.Renumbered.{order-keeps-nodes}
 use Rattle.rules.specs.Task.{Task, taskOf}
-use Rattle.rules.specs.Search.{Answer, Found, Record, mapOf, continue}
-use Rattle.rules.specs.Handed.{Handed, recordOf, handed, acceptedHanded}
-use Rattle.rules.specs.Calls.{pairLines, idPairs, filled, ContinueSays, went, turnedAway, wentOn, orWent, recordLines, continueSays}
+use Rattle.rules.specs.Search.{Answer, mapOf, continue}
+use Rattle.rules.specs.Handed.{Handed, recordOf, acceptedHanded}
+use Rattle.rules.specs.Calls.{pairLines, idPairs, ContinueSays, went, wentOn, orWent, recordLines, continueSays}
 use Rattle.placements.specs.Claims as claims
 use Rattle.placements.specs.Claims.{permutations}
 use Rattle.promises.specs.Sessions.{mapIn}
 use Rattle.promises.specs.Promises.{search, LongEnough, mostSteps, refusalOf}
 use Rattle.promises.proofs.Files.{none-of-both, none-of-cons, none-for-cons, none-of-nil}
-use Rattle.promises.proofs.Bytes.{ids, map-read, pairs-length, written-rest, written-length}
+use Rattle.promises.proofs.Bytes.{map-read, pairs-length}
 
 module _ (f₀ f₁ s : List ℕ) where
   abbrev pub t : Task
@@ -41,7 +41,7 @@ module _ (f₀ f₁ s : List ℕ) where
   unfolding taskOf
   task-nodes₁ = order-keeps-nodes (settingsOf s .vf2pp) (graphOf f₁) ∙ nodes-of-graph f₁
 
-  pub most-steps : (nodes (t .graph₀) + 2) * permutations (nodes (t .graph₀)) (nodes (t .graph₁)) ≡ mostSteps f₀ f₁ s
+  pub most-steps : (nodes (t .graph₀) + 2) * permutations (nodes (t .graph₀)) (nodes (t .graph₁)) ≡ mostSteps f₀ f₁
   most-steps = rw (task-nodes₀, task-nodes₁)
 
   -- the bytes of a map, and the map read off them
@@ -66,7 +66,7 @@ module _ (f₀ f₁ s : List ℕ) where
   pub record Goes (h : Handed) (buffer : List ℕ) : Type 0 where
     pub no-line : first (pairLines f₀ f₁ s) ≡ none
     pub record-accepted : acceptedHanded t h ≡ true
-    pub long : LongEnough f₀ f₁ s buffer
+    pub long : LongEnough f₁ buffer
 
   module _ (h : Handed) (budget : ℕ) (buffer : List ℕ) where
     abbrev went-on : ContinueSays

@@ -1,21 +1,20 @@
 -- What follows where no line of the table applies to two files and settings.
-use Prim.Native.Nat.{ℕ, _≤_}
-use mathlib.Core.Bool.{Bool, true, false, not}
+use Prim.Native.Nat.{ℕ}
+use mathlib.Core.Bool.{Bool, true, false}
 use mathlib.Core.List.{List, [], _∷_, _++_}
 use mathlib.Core.Option.{Option, none, some}
 use mathlib.Core.Path.{_≡_, refl, sym, _∙_}
 use native.Mathlib.Omega.{arith}
-use lib.Dec.{eqb}
 use borrow.Author.Tests.{eqb-true, not-false, eq-eqb}
 use Rattle.lists.proofs.Tests.{option-case}
-use Rattle.packed.specs.Packed.{kind, nodeCount, graphOf}
+use Rattle.packed.specs.Packed.{kind, graphOf}
 use Rattle.packed.specs.Refusals.{Refused, Line, line, first, fileLines, reading, graph}
-use Rattle.packed.specs.Settings.{settingsOf, badSettings, settingsLines}
+use Rattle.packed.specs.Settings.{badSettings, settingsLines}
 use Rattle.packed.proofs.First.{first-before, first-behind}
 use Rattle.packed.proofs.Accepted.{accepted, Accepted}
 use Rattle.rules.specs.Handed.{Handed, handed}
 use Rattle.rules.specs.Search.{started}
-use Rattle.rules.specs.Calls.{kindLines, pairLines, startSays, begun, refused, orBegun}
+use Rattle.rules.specs.Calls.{kindLines, pairLines, startSays, begun, orBegun}
 use Rattle.placements.specs.Claims.{OfOneKind}
 use Rattle.placements.proofs.Files.{files-ensure}
 

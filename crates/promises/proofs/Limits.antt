@@ -1,29 +1,27 @@
 -- Sessions with a limit, beside a whole one under the same settings but for the limit.
-use Prim.Native.Nat.{ℕ, suc, _≤_, _<_, min}
-use mathlib.Core.Bool.{Bool, true, false, cond}
-use mathlib.Core.List.{List, [], _∷_, _++_, map}
-use mathlib.Core.Option.{Option, none, some}
-use mathlib.Core.Path.{_≡_, refl, sym, _∙_, ap, fun-ext}
+use Prim.Native.Nat.{ℕ, _≤_, min}
+use mathlib.Core.Bool.{cond}
+use mathlib.Core.List.{List, [], map}
+use mathlib.Core.Option.{none, some}
+use mathlib.Core.Path.{_≡_, sym, _∙_, ap, fun-ext}
 use native.Mathlib.Omega.{arith}
 use lib.Dec.{ltb}
-use lib.ListN.{length}
 use borrow.Author.Tests.{ltb-true, lt-ltb}
 use Rattle.lists.proofs.Tests.{by-iff}
 use Rattle.packed.specs.Graph.{Graph}
 use Rattle.packed.specs.Packed.{graphOf}
 use Rattle.packed.specs.Settings.{Settings, settingsOf}
-use Rattle.rules.specs.Task.{Task, taskOf, countsAgree}
-use Rattle.rules.specs.Search.{Answer, None, Limit, started, mapOf}
+use Rattle.rules.specs.Task.{Task, taskOf}
+use Rattle.rules.specs.Search.{Answer, None, Limit, mapOf}
 use Rattle.rules.specs.Handed.{Handed}
 use Rattle.placements.specs.Listed.{listed, stepsOf, acceptedOf}
-use Rattle.placements.specs.Calls.{Called, calls, unlimited}
-use Rattle.placements.specs.Claims.{LimitMost, called, Listing, Limited, idPairs}
+use Rattle.placements.specs.Calls.{Called, unlimited}
+use Rattle.placements.specs.Claims.{called, Limited, idPairs}
 use Rattle.placements.proofs.Unlimited.{pairs-same, limit-plays-no-part}
 use Rattle.placements.proofs.Called.{Ends, ends-open, ends-none, ends-limit, calls-end}
 use Rattle.placements.proofs.Listing.{limited}
 use Rattle.promises.specs.Sessions.{Map, Ending, Answered, Session, session}
-use Rattle.promises.specs.Promises.{settings, Begins, CountsAgree, LongEnough, mapsOfRules, withoutLimit, CutFrom, WithALimit}
-use Rattle.promises.proofs.Files.{NotRefused}
+use Rattle.promises.specs.Promises.{Begins, CountsAgree, LongEnough, mapsOfRules, withoutLimit, CutFrom, WithALimit}
 use Rattle.promises.proofs.Continued.{t, mapOfPath}
 use Rattle.promises.proofs.Sessions.{seen}
 use Rattle.promises.proofs.Listing.{ending-of, ending-same, limit-most, steps-most, begun-free, from-start, task-agrees, maps-first, rules-listing}
@@ -75,12 +73,12 @@ below-most limit k small =
     (λ e. let l = ltb-true limit (min k 4294967295) e in lt-ltb limit k (omega arith))
     (λ e. let l = ltb-true limit k e in lt-ltb limit (min k 4294967295) (omega arith))
 
-module _ (f₀ f₁ s s′ : List ℕ) (h h′ : Handed) (limit : ℕ) (b : Begins f₀ f₁ s h) (has : settings f₀ f₁ s .limit ≡ some limit)
-    (b′ : Begins f₀ f₁ s′ h′) (but : settings f₀ f₁ s′ ≡ withoutLimit (settings f₀ f₁ s)) (agreed : CountsAgree f₀ f₁ s) where
+module _ (f₀ f₁ s s′ : List ℕ) (h h′ : Handed) (limit : ℕ) (b : Begins f₀ f₁ s h) (has : settingsOf s .limit ≡ some limit)
+    (b′ : Begins f₀ f₁ s′ h′) (but : settingsOf s′ ≡ withoutLimit (settingsOf s)) (agreed : CountsAgree f₀ f₁ s) where
   agreed′ : CountsAgree f₀ f₁ s′
   agreed′ = rw but agreed
 
-  free′ : settings f₀ f₁ s′ .limit ≡ none
+  free′ : settingsOf s′ .limit ≡ none
   free′ = rw but
 
   small : limit ≤ 4294967294
@@ -102,7 +100,7 @@ module _ (f₀ f₁ s s′ : List ℕ) (h h′ : Handed) (limit : ℕ) (b : Begi
   same-accepted =
       ap (λ set. acceptedOf (taskOf set (graphOf f₀) (graphOf f₁))) but ∙ accepted-unlimited (settingsOf s) (graphOf f₀) (graphOf f₁)
 
-  module _ (all buffer′ : List ℕ) (long′ : LongEnough f₀ f₁ s′ buffer′)
+  module _ (all buffer′ : List ℕ) (long′ : LongEnough f₁ buffer′)
       (ended : session f₀ f₁ s′ all h′ buffer′ .ending ≡ some (Answered None)) where
     abbrev whole : Session
     whole = session f₀ f₁ s′ all h′ buffer′
@@ -135,7 +133,7 @@ module _ (f₀ f₁ s s′ : List ℕ) (h h′ : Handed) (limit : ℕ) (b : Begi
     compared : ltb limit (whole .handed′ .accepted) ≡ ltb limit (acceptedOf (t f₀ f₁ s))
     compared = ap (ltb limit) whole-accepted ∙ below-most limit (acceptedOf (t f₀ f₁ s)) small
 
-    module _ (budgets buffer : List ℕ) (long : LongEnough f₀ f₁ s buffer) where
+    module _ (budgets buffer : List ℕ) (long : LongEnough f₁ buffer) where
       abbrev part : Called (t f₀ f₁ s)
       part = called (t f₀ f₁ s) budgets
 

@@ -1,43 +1,37 @@
 -- The listing over bytes: sessions from Start are the rules' calls from Start, whose maps are all placements.
-use Prim.Native.Nat.{ℕ, suc, _+_, _*_, _≤_, _<_, min}
-use mathlib.Core.Bool.{Bool, true, false, cond}
+use Prim.Native.Nat.{ℕ, _≤_}
+use mathlib.Core.Bool.{true, false}
 use mathlib.Core.List.{List, [], _∷_, _++_, map}
 use mathlib.Core.Option.{Option, none, some}
 use mathlib.Core.Path.{_≡_, refl, sym, _∙_, ap}
 use native.Mathlib.Omega.{arith}
-use lib.Dec.{eqb, ltb}
-use lib.ListN.{length}
-use borrow.Author.Tests.{ltb-true, lt-ltb}
-use Rattle.lists.specs.Lists.{from, count}
-use Rattle.lists.proofs.Tests.{case, never, by-iff, false-by}
+use lib.Dec.{eqb}
+use Rattle.lists.proofs.Tests.{false-by}
 use Rattle.lists.proofs.Laws.{map-append, count-map, count-same}
-use Rattle.packed.specs.Graph.{Graph, nodes}
+use Rattle.packed.specs.Graph.{nodes}
 use Rattle.packed.specs.Packed.{nodeCount, graphOf}
-use Rattle.packed.specs.Refusals.{first}
-use Rattle.packed.specs.Settings.{Settings, settingsOf}
+use Rattle.packed.specs.Settings.{settingsOf}
 use Rattle.packed.proofs.Accepted.{nodes-of-graph}
-use Rattle.rules.specs.Task.{Task, taskOf, countsAgree, exchanged, partner}
-use Rattle.rules.specs.Search.{Answer, Found, None, Limit, Paused, Record, started, imageOf, mapOf, continue}
-use Rattle.rules.specs.Handed.{Handed, handed}
-use Rattle.rules.specs.Calls.{pairLines, filled, went, wentOn, continueSays}
+use Rattle.rules.specs.Task.{taskOf, countsAgree}
+use Rattle.rules.specs.Search.{Answer, None, started}
+use Rattle.rules.specs.Handed.{Handed}
+use Rattle.rules.specs.Calls.{went, wentOn, continueSays}
 use Rattle.rules.specs.Placement.{Placement}
 use Rattle.rules.proofs.Laws.{all-same-from}
-use Rattle.placements.specs.Listed.{listed, stepsOf, acceptedOf}
-use Rattle.placements.specs.Calls.{Called, calls, unlimited, acceptedIn}
-use Rattle.placements.specs.Claims.{Each, graphsAgree, permutations, LimitMost, called, FromStart, Listing, Limited, idImage, idPairs, showsIds}
+use Rattle.placements.specs.Listed.{listed, stepsOf}
+use Rattle.placements.specs.Claims.{Each, LimitMost, called, FromStart, Listing, idImage, showsIds}
 use Rattle.placements.proofs.Renumbered.{renumbered-placements}
 use Rattle.placements.proofs.Accepted.{accepted-stays}
 use Rattle.placements.proofs.Bound.{steps-within}
-use Rattle.placements.proofs.Unlimited.{pairs-same, limit-plays-no-part}
-use Rattle.placements.proofs.Called.{Ends, ends-open, ends-none, ends-limit, calls-end}
+use Rattle.placements.proofs.Called.{calls-end}
 use Rattle.placements.proofs.Files.{settings-ensure}
-use Rattle.placements.proofs.Listing.{no-map, listing, limited, first-calls}
-use Rattle.promises.specs.Sessions.{Map, image, shows, Ending, Answered, Session, session}
-use Rattle.promises.specs.Promises.{settings, search, Begins, CountsAgree, Places, LongEnough, IsPlacement, mapsOfRules, mostSteps, HoldEveryPlacement, ListingFrom, TheListing, withoutLimit, CutFrom, WithALimit}
+use Rattle.placements.proofs.Listing.{no-map, listing, first-calls}
+use Rattle.promises.specs.Sessions.{Map, image, shows, Ending, Answered, session}
+use Rattle.promises.specs.Promises.{Begins, CountsAgree, LongEnough, IsPlacement, mapsOfRules, mostSteps, HoldEveryPlacement, ListingFrom, TheListing}
 use Rattle.promises.proofs.Files.{NotRefused, not-refused, of-one-kind, begins}
 use Rattle.promises.proofs.Continued.{t, most-steps, mapOfPath}
 use Rattle.promises.proofs.Maps.{counts-of-task, listing-ids, path-image, path-placement}
-use Rattle.promises.proofs.Sessions.{endings, refilled, seen, continue-handed, session-seen}
+use Rattle.promises.proofs.Sessions.{endings, seen, continue-handed, session-seen}
 
 -- an ending over bytes is one over the rules
 pub ending-of : (o : Option Answer) (e : Ending) → endings o ≡ some e → (a : Answer) × (o ≡ some a) × (e ≡ Answered a)
@@ -87,20 +81,20 @@ module _ (f₀ f₁ s : List ℕ) where
   unfolding taskOf
   limit-most n limit e = settings-ensure s limit (n .settings-good) e
 
-  pub steps-most : stepsOf (t f₀ f₁ s) ≤ mostSteps f₀ f₁ s
+  pub steps-most : stepsOf (t f₀ f₁ s) ≤ mostSteps f₀ f₁
   steps-most = omega (arith, steps-within (t f₀ f₁ s), most-steps f₀ f₁ s)
 
   module _ (h : Handed) (b : Begins f₀ f₁ s h) where
     pub begun-free : NotRefused f₀ f₁ s
     begun-free = not-refused f₀ f₁ s (begins f₀ f₁ s h b .0)
 
-    pub from-start : (budgets buffer : List ℕ) → LongEnough f₀ f₁ s buffer
+    pub from-start : (budgets buffer : List ℕ) → LongEnough f₁ buffer
         → session f₀ f₁ s budgets h buffer ≡ seen f₀ f₁ s (called (t f₀ f₁ s) budgets) buffer
     from-start budgets buffer long =
         ap (λ h. session f₀ f₁ s budgets h buffer) (begins f₀ f₁ s h b .1)
         ∙ session-seen f₀ f₁ s (begins f₀ f₁ s h b .0) budgets started buffer (accepted-stays (t f₀ f₁ s) .at-start) long
 
-    no-first-map : (CountsAgree f₀ f₁ s → ⊥) → (budget : ℕ) (buffer : List ℕ) → LongEnough f₀ f₁ s buffer
+    no-first-map : (CountsAgree f₀ f₁ s → ⊥) → (budget : ℕ) (buffer : List ℕ) → LongEnough f₁ buffer
         → continueSays f₀ f₁ s h budget buffer ≡ went None 0 h buffer
     no-first-map differ budget buffer long =
         let c : countsAgree (t f₀ f₁ s) ≡ false =
@@ -116,24 +110,24 @@ module _ (f₀ f₁ s : List ℕ) where
       pub calls-first : (budgets : List ℕ) → FromStart (t f₀ f₁ s) (called (t f₀ f₁ s) budgets)
       calls-first budgets = first-calls (t f₀ f₁ s) task-agrees (limit-most begun-free) budgets
 
-      pub maps-first : (budgets buffer : List ℕ) → LongEnough f₀ f₁ s buffer
+      pub maps-first : (budgets buffer : List ℕ) → LongEnough f₁ buffer
           → (rest : List Map) × (session f₀ f₁ s budgets h buffer .maps ++ rest ≡ mapsOfRules f₀ f₁ s)
       maps-first budgets buffer long =
           let c = called (t f₀ f₁ s) budgets in
           let r = calls-first budgets .first-maps in (
             map (mapOfPath f₀ f₁ s) (r .0),
             ap (λ z. z .maps ++ map (mapOfPath f₀ f₁ s) (r .0)) (from-start budgets buffer long)
-            ∙ sym (map-append (mapOfPath f₀ f₁ s) (c .maps) (r .0))
-            ∙ ap (map (mapOfPath f₀ f₁ s)) (r .1),
+                ∙ sym (map-append (mapOfPath f₀ f₁ s) (c .maps) (r .0))
+                ∙ ap (map (mapOfPath f₀ f₁ s)) (r .1),
           )
 
-      pub rules-listing : settings f₀ f₁ s .limit ≡ none → Listing (t f₀ f₁ s)
+      pub rules-listing : settingsOf s .limit ≡ none → Listing (t f₀ f₁ s)
       unfolding taskOf
       rules-listing free =
           listing (t f₀ f₁ s) (renumbered-placements (settingsOf s) (graphOf f₀) (graphOf f₁) (of-one-kind f₀ f₁ s begun-free) .sound)
           task-agrees free
 
-      pub listing-from : settings f₀ f₁ s .limit ≡ none → ListingFrom f₀ f₁ s h
+      pub listing-from : settingsOf s .limit ≡ none → ListingFrom f₀ f₁ s h
       listing-from free =
           let l = rules-listing free in
           record {

@@ -1,35 +1,32 @@
 -- Each map handed out is a placement: the path behind it shows a placement of ids, and the bytes show the path's map.
 use Prim.Native.Nat.{ℕ, _*_, _≤_, _<_}
-use mathlib.Core.Bool.{Bool, true, false}
-use mathlib.Core.List.{List, [], _∷_, map}
-use mathlib.Core.Option.{none}
-use mathlib.Core.Path.{_≡_, refl, sym, _∙_, ap}
+use mathlib.Core.Bool.{true}
+use mathlib.Core.List.{List, map}
+use mathlib.Core.Path.{_≡_, sym, _∙_, ap}
 use native.Mathlib.Omega.{arith}
-use lib.ListN.{length, drop}
-use Rattle.lists.specs.Lists.{count, member}
+use lib.ListN.{length}
 use Rattle.lists.proofs.Tests.{case, and-right}
 use Rattle.packed.specs.Graph.{Graph, nodes}
 use Rattle.packed.specs.Packed.{nodeCount, graphOf}
-use Rattle.packed.specs.Refusals.{first}
 use Rattle.packed.specs.Settings.{Settings, settingsOf}
 use Rattle.packed.proofs.Accepted.{nodes-of-graph}
 use Rattle.order.specs.Order.{nodeOrder}
 use Rattle.order.specs.Paper.{written}
 use Rattle.order.proofs.Once.{order-member, order-holds-each-once}
-use Rattle.rules.specs.Task.{taskOf, countsAgree}
-use Rattle.rules.specs.Search.{Answer, Found, None, Record, continue, acceptedRecord}
-use Rattle.rules.specs.Handed.{Handed, recordOf, handed, zeroBeyond}
-use Rattle.rules.specs.Calls.{pairLines, filled, went, continueSays}
-use Rattle.rules.specs.Placement.{Placement, edgesOf}
-use Rattle.placements.specs.Claims.{OfOneKind, graphsAgree, idImage, ListingOfIds}
+use Rattle.rules.specs.Task.{countsAgree}
+use Rattle.rules.specs.Search.{Found, None, continue}
+use Rattle.rules.specs.Handed.{Handed, recordOf, zeroBeyond}
+use Rattle.rules.specs.Calls.{filled, went, continueSays}
+use Rattle.rules.specs.Placement.{Placement}
+use Rattle.placements.specs.Claims.{graphsAgree, idImage, ListingOfIds}
 use Rattle.placements.proofs.Renumbered.{renumbered-placements}
 use Rattle.placements.proofs.Listing.{no-map}
 use Rattle.placements.proofs.Ids.{listing-of-ids}
-use Rattle.promises.specs.Sessions.{Map, mapIn, image}
-use Rattle.promises.specs.Promises.{CountsAgree, Finds, Places, IsPlacement, EveryMapIsAPlacement}
+use Rattle.promises.specs.Sessions.{mapIn, image}
+use Rattle.promises.specs.Promises.{CountsAgree, Places, IsPlacement, EveryMapIsAPlacement}
 use Rattle.promises.proofs.Files.{NotRefused, not-refused, of-one-kind}
 use Rattle.promises.proofs.Bytes.{showing, image-at, seconds, written-rest, written-length}
-use Rattle.promises.proofs.Continued.{t, mapBytes, mapOfPath, map-bytes, map-read-off, Goes, went-goes, went-parts}
+use Rattle.promises.proofs.Continued.{t, mapBytes, mapOfPath, map-bytes, map-read-off, went-goes, went-parts}
 
 -- a placement is what it does to graph 1's nodes
 pub placement-same : (s : Settings) (g₀ g₁ : Graph) (φ ψ : ℕ → ℕ) → ((v : ℕ) → v < nodes g₁ → φ v ≡ ψ v)

@@ -1,18 +1,17 @@
 -- No second outcome: the paper's values tell the code's cases apart, and Check's yes and no shut each other out.
 use Prim.Native.Nat.{ℕ}
-use mathlib.Core.Bool.{Bool}
 use mathlib.Core.List.{List, [], _∷_}
 use mathlib.Core.Path.{_≡_, refl, sym, _∙_, ap}
 use native.Mathlib.Omega.{arith}
 use lib.ListN.{getD}
 use Rattle.packed.specs.Refusals.{Refused, first}
-use Rattle.packed.specs.Paper.{numberOf, refusedBy, ReadSays, counts, refused, readPaper}
+use Rattle.packed.specs.Paper.{numberOf, refusedBy, readPaper}
 use Rattle.packed.specs.declared.Refusal.{Refusal}
 use Rattle.packed.specs.declared.Refusal.the-variants.{TooShort, TooManyNodes, TooManyEdges, WrongLength, PaddingBit, UnknownNode, KindsDiffer, BadSettings, NoAcceptedPath, BufferTooShort, WrongMapLength}
 use Rattle.packed.specs.declared.ReadAnswer.{ReadAnswer}
 use Rattle.packed.specs.declared.ReadAnswer.the-variants as read
 use Rattle.order.specs.Paper as paper
-use Rattle.order.specs.Paper.{OrderSays, orderPaper}
+use Rattle.order.specs.Paper.{orderPaper}
 use Rattle.order.specs.declared.OrderAnswer.{OrderAnswer}
 use Rattle.order.specs.declared.OrderAnswer.the-variants as order
 use Rattle.rules.specs.Calls.{checkLines, Proposes}
@@ -23,19 +22,19 @@ use Rattle.promises.proofs.Checks.{judged-once}
 bearing : ℕ → Refusal
 bearing n =
     getD (
-      TooShort
-      ∷ TooShort
-      ∷ TooManyNodes
-      ∷ TooManyEdges
-      ∷ WrongLength
-      ∷ PaddingBit
-      ∷ UnknownNode
-      ∷ KindsDiffer
-      ∷ BadSettings
-      ∷ NoAcceptedPath
-      ∷ BufferTooShort
-      ∷ WrongMapLength
-      ∷ []
+    TooShort
+    ∷ TooShort
+    ∷ TooManyNodes
+    ∷ TooManyEdges
+    ∷ WrongLength
+    ∷ PaddingBit
+    ∷ UnknownNode
+    ∷ KindsDiffer
+    ∷ BadSettings
+    ∷ NoAcceptedPath
+    ∷ BufferTooShort
+    ∷ WrongMapLength
+    ∷ []
     ) n TooShort
 
 bears : (r : Refusal) → bearing (numberOf r) ≡ r

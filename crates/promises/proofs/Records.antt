@@ -1,33 +1,31 @@
 -- Records that are handed out are accepted, and those that are accepted are the ones that the search passes on its way from Start.
-use Prim.Native.Nat.{ℕ, _+_, _*_, _≤_}
-use mathlib.Core.Bool.{Bool, true, false, cond, not, _&&_}
-use mathlib.Core.List.{List, [], _∷_, _++_}
-use mathlib.Core.Logic.{_↔_}
-use mathlib.Core.Option.{Option, none, some}
-use mathlib.Core.Path.{_≡_, refl, sym, _∙_, ap}
+use Prim.Native.Nat.{ℕ, _*_, _≤_}
+use mathlib.Core.Bool.{Bool, true, false, cond}
+use mathlib.Core.List.{List, _++_}
+use mathlib.Core.Option.{none, some}
+use mathlib.Core.Path.{_≡_, sym, _∙_, ap}
 use native.Mathlib.Omega.{arith}
 use lib.Dec.{ltb, leb}
 use lib.ListN.{length}
 use borrow.Author.Tests.{leb-true}
-use Rattle.lists.proofs.Tests.{case, and-left, and-right}
+use Rattle.lists.proofs.Tests.{and-left, and-right}
 use Rattle.packed.specs.Graph.{nodes}
 use Rattle.packed.specs.Packed.{nodeCount, graphOf}
-use Rattle.packed.specs.Refusals.{Refused, Line, line, first}
+use Rattle.packed.specs.Refusals.{Refused, first}
 use Rattle.packed.specs.Settings.{settingsOf}
 use Rattle.packed.proofs.First.{first-behind}
-use Rattle.rules.specs.Task.{Task, taskOf, countsAgree}
-use Rattle.rules.specs.Search.{Answer, Record, started, continue, acceptedRecord, acceptedPath, topOffered}
+use Rattle.rules.specs.Task.{Task}
+use Rattle.rules.specs.Search.{Record, started, acceptedRecord}
 use Rattle.rules.specs.Handed.{Handed, chosen, recordOf, pathBytes, handed, zeroBeyond, acceptedHanded}
-use Rattle.rules.specs.Calls.{pairLines, orWent, recordLines, went, continueSays}
+use Rattle.rules.specs.Calls.{pairLines, orWent, recordLines, continueSays}
 use Rattle.placements.specs.Calls.{unlimited, after}
-use Rattle.placements.specs.Claims.{permutations}
 use Rattle.placements.proofs.Accepted.{accepted-stays}
 use Rattle.placements.proofs.Bound.{steps-within}
 use Rattle.placements.proofs.Records.{records}
-use Rattle.promises.specs.Promises.{LongEnough, mostSteps, refusalOf, AcceptedNext, PassedAfter, RecordsMeanSomething}
-use Rattle.promises.proofs.Files.{none-for-cons, none-of-nil, not-refused, files-accepted, begins}
+use Rattle.promises.specs.Promises.{refusalOf, AcceptedNext, PassedAfter, RecordsMeanSomething}
+use Rattle.promises.proofs.Files.{not-refused, files-accepted, begins}
 use Rattle.promises.proofs.Bytes.{accepted-handed, chosen-length, bytes-again}
-use Rattle.promises.proofs.Continued.{t, task-nodes₀, most-steps, Goes, continue-goes, went-goes, went-parts, goes-unless}
+use Rattle.promises.proofs.Continued.{t, task-nodes₀, most-steps, continue-goes, went-goes, went-parts, goes-unless}
 
 module _ (f₀ f₁ s : List ℕ) (h : Handed) where
   -- with an accepted record only line 10 is left

@@ -2,23 +2,22 @@
 -- over, and the buffer filled by each map in its turn.
 use Prim.Native.Nat.{ℕ}
 use mathlib.Core.Bool.{true}
-use mathlib.Core.List.{List, [], _∷_, _++_, map}
+use mathlib.Core.List.{List, [], _∷_, map}
 use mathlib.Core.Option.{Option, none, some}
 use mathlib.Core.Path.{_≡_, refl, sym, _∙_, ap}
 use native.Mathlib.Omega.{arith}
-use lib.ListN.{length}
 use Rattle.packed.specs.Packed.{nodeCount, graphOf}
 use Rattle.packed.specs.Refusals.{first}
 use Rattle.packed.specs.Settings.{settingsOf}
 use Rattle.order.specs.Paper.{written}
-use Rattle.rules.specs.Search.{Answer, Found, None, Limit, Paused, Record, Went, run, continue, acceptedRecord}
-use Rattle.rules.specs.Handed.{Handed, recordOf, handed}
+use Rattle.rules.specs.Search.{Answer, Found, None, Limit, Paused, Record, Went, continue, acceptedRecord}
+use Rattle.rules.specs.Handed.{Handed, handed}
 use Rattle.rules.specs.Calls.{pairLines, filled, ContinueSays, went, turnedAway, wentOn, continueSays}
-use Rattle.placements.specs.Calls.{Called, after-call, last-call, calls}
+use Rattle.placements.specs.Calls.{Called, calls}
 use Rattle.placements.specs.Claims.{Each}
 use Rattle.placements.proofs.Accepted.{accepted-stays}
 use Rattle.placements.proofs.Called.{calls-nil, calls-found, calls-paused, calls-none, calls-limit}
-use Rattle.promises.specs.Sessions.{mapIn, Ending, Answered, Session, before, over, andThen, session}
+use Rattle.promises.specs.Sessions.{Ending, Answered, Session, before, over, andThen, session}
 use Rattle.promises.specs.Promises.{LongEnough, Finds, SessionsFind}
 use Rattle.promises.proofs.Bytes.{record-again, accepted-handed, written-length}
 use Rattle.promises.proofs.Continued.{t, mapBytes, mapOfPath, map-bytes, map-read-off, continue-goes}
@@ -54,7 +53,7 @@ module _ (f₀ f₁ s : List ℕ) where
   session-cons b bs h buffer = refl
 
   module _ (free : first (pairLines f₀ f₁ s) ≡ none) where
-    pub continue-handed : (r : Record) (b : ℕ) (buffer : List ℕ) → acceptedRecord (t f₀ f₁ s) r ≡ true → LongEnough f₀ f₁ s buffer
+    pub continue-handed : (r : Record) (b : ℕ) (buffer : List ℕ) → acceptedRecord (t f₀ f₁ s) r ≡ true → LongEnough f₁ buffer
         → continueSays f₀ f₁ s (handed r) b buffer
         ≡ wentOn (settingsOf s) (graphOf f₀) (graphOf f₁) (continue (t f₀ f₁ s) b r) buffer
     continue-handed r b buffer e long =
@@ -64,12 +63,12 @@ module _ (f₀ f₁ s : List ℕ) where
 
     abbrev Seen : List ℕ → Type 0
     Seen budgets =
-        (r : Record) (buffer : List ℕ) → acceptedRecord (t f₀ f₁ s) r ≡ true → LongEnough f₀ f₁ s buffer
+        (r : Record) (buffer : List ℕ) → acceptedRecord (t f₀ f₁ s) r ≡ true → LongEnough f₁ buffer
         → session f₀ f₁ s budgets (handed r) buffer ≡ seen (calls (t f₀ f₁ s) budgets r) buffer
 
     -- one call, by its answer
     module _ (b : ℕ) (bs : List ℕ) (rest : Seen bs) (r : Record) (buffer : List ℕ) (e : acceptedRecord (t f₀ f₁ s) r ≡ true)
-        (long : LongEnough f₀ f₁ s buffer) where
+        (long : LongEnough f₁ buffer) where
       abbrev w : Went
       w = continue (t f₀ f₁ s) b r
 
@@ -88,7 +87,7 @@ module _ (f₀ f₁ s : List ℕ) where
       by-answer : (a : Answer) → w .answer ≡ a → followed a ≡ seen (calls (t f₀ f₁ s) (b ∷ bs) r) buffer
       by-answer Found k =
           let bytes = mapBytes f₀ f₁ s path in
-          let still : LongEnough f₀ f₁ s (written bytes buffer) =
+          let still : LongEnough f₁ (written bytes buffer) =
           omega (arith, written-length bytes buffer (omega (arith, map-bytes f₀ f₁ s path))) in
           ap (λ m. before (m ∷ []) (w .steps) (session f₀ f₁ s bs (handed (w .record′)) (written bytes buffer)))
           (map-read-off f₀ f₁ s path buffer)
@@ -118,11 +117,10 @@ module _ (f₀ f₁ s : List ℕ) where
   finds-then : (b : ℕ) (bs : List ℕ) → ((h : Handed) (buffer : List ℕ) → Each (Finds f₀ f₁ s) (session f₀ f₁ s bs h buffer .maps))
       → (h : Handed) (buffer : List ℕ) (c : ContinueSays) → continueSays f₀ f₁ s h b buffer ≡ c
       → Each (Finds f₀ f₁ s) (andThen (nodeCount f₁) c (session f₀ f₁ s bs) .maps)
-  finds-then b bs rest h buffer (went Found n h′ buffer′) e =
-      (
-        record { record₀ = h; record₁ = h′; budget = b; steps = n; buffer₀ = buffer; buffer₁ = buffer′; says = e; is = refl },
-        rest h′ buffer′,
-      )
+  finds-then b bs rest h buffer (went Found n h′ buffer′) e = (
+    record { record₀ = h; record₁ = h′; budget = b; steps = n; buffer₀ = buffer; buffer₁ = buffer′; says = e; is = refl },
+    rest h′ buffer′,
+  )
   finds-then b bs rest h buffer (went Paused n h′ buffer′) e = rest h′ buffer′
   finds-then b bs rest h buffer (went None n h′ buffer′) e = tt
   finds-then b bs rest h buffer (went Limit n h′ buffer′) e = tt

@@ -1,35 +1,30 @@
 -- Whatever is a placement of two files that are not refused and whose counts agree is listed once: chains, the identity, reverses.
-use Prim.Native.Nat.{ℕ, _<_}
-use mathlib.Core.Bool.{Bool, true, false}
-use mathlib.Core.List.{List, [], _∷_, _++_, map}
-use mathlib.Core.Option.{Option, none, some}
+use Prim.Native.Nat.{ℕ}
+use mathlib.Core.Bool.{false}
+use mathlib.Core.List.{List, [], map}
+use mathlib.Core.Option.{some}
 use mathlib.Core.Path.{_≡_, refl, sym, _∙_, ap, subst}
 use native.Mathlib.Omega.{arith}
-use lib.ListN.{length}
-use Rattle.lists.specs.Lists.{count, member}
-use Rattle.lists.proofs.Tests.{and-intro}
 use Rattle.packed.specs.Graph.{Graph, nodes}
-use Rattle.packed.specs.Packed.{kind, nodeCount, graphOf}
-use Rattle.packed.specs.Refusals.{first, fileLines}
+use Rattle.packed.specs.Packed.{graphOf}
 use Rattle.packed.specs.Settings.{settingsOf, settingsLines}
 use Rattle.order.specs.Order.{nodeOrder}
 use Rattle.order.proofs.Once.{order-member, order-distinct}
 use Rattle.lists.proofs.Distinct.{distinct-below}
 use Rattle.rules.specs.Task.{Task, exchange}
-use Rattle.rules.specs.Search.{Answer, Found, None, Limit, started}
+use Rattle.rules.specs.Search.{None, Limit, started}
 use Rattle.rules.specs.Handed.{Handed, handed}
-use Rattle.rules.specs.Calls.{pairLines, startSays, begun, orBegun}
-use Rattle.rules.specs.Placement.{Placement}
+use Rattle.rules.specs.Calls.{orBegun}
 use Rattle.placements.specs.Listed.{listed}
 use Rattle.placements.specs.Calls.{Called}
-use Rattle.placements.specs.Claims.{graphsAgree, reverse, called, idImage}
+use Rattle.placements.specs.Claims.{reverse, called, idImage}
 use Rattle.placements.proofs.Called.{Ends, ends-open, ends-none, ends-limit, calls-end}
 use Rattle.placements.proofs.Symmetries.{identity, chained, counts-chained, reversed}
 use Rattle.placements.proofs.Ids.{counts-own, counts-back}
-use Rattle.promises.specs.Sessions.{Map, mapIn, image, shows, Answered, session}
-use Rattle.promises.specs.Promises.{settings, Begins, CountsAgree, Places, LongEnough, Finds, IsPlacement, mapsOfRules, ListedOnce, ChainedPlacements, IdentityAndReverse}
+use Rattle.promises.specs.Sessions.{Map, image, Answered, session}
+use Rattle.promises.specs.Promises.{Begins, CountsAgree, Places, LongEnough, Finds, IsPlacement, mapsOfRules, ListedOnce, ChainedPlacements, IdentityAndReverse}
 use Rattle.promises.proofs.Files.{NotRefused, not-refused, no-line, of-one-kind, file-either, none-of-cons}
-use Rattle.promises.proofs.Bytes.{showing, image-back}
+use Rattle.promises.proofs.Bytes.{image-back}
 use Rattle.promises.proofs.Continued.{t, mapOfPath}
 use Rattle.promises.proofs.Maps.{placement-same, path-shows, Found′, found, found-map, found-placement}
 use Rattle.promises.proofs.Listing.{ending-same, limit-most, begun-free, from-start, task-agrees, holds-every-placement}
@@ -44,7 +39,7 @@ listed-at-none t budgets w (ends-limit a s c p q) e = let k : None ≡ Limit = c
 
 module _ (f₀ f₁ s : List ℕ) where
   -- with a limit or without, a session that ends with None has handed out the whole listing
-  pub whole-session : (h : Handed) → Begins f₀ f₁ s h → CountsAgree f₀ f₁ s → (budgets buffer : List ℕ) → LongEnough f₀ f₁ s buffer
+  pub whole-session : (h : Handed) → Begins f₀ f₁ s h → CountsAgree f₀ f₁ s → (budgets buffer : List ℕ) → LongEnough f₁ buffer
       → session f₀ f₁ s budgets h buffer .ending ≡ some (Answered None) → session f₀ f₁ s budgets h buffer .maps ≡ mapsOfRules f₀ f₁ s
   whole-session h b agreed budgets buffer long k =
       let is = from-start f₀ f₁ s h b budgets buffer long in
@@ -77,21 +72,31 @@ module _ (f₀ f₁ s : List ℕ) where
     pub finds-path : m ≡ mapOfPath f₀ f₁ s (behind .path)
     finds-path = f .is ∙ found-map f₀ f₁ s (f .buffer₀) (f .buffer₁) behind
 
+-- three files, by two pairs of them
+chained-files : (f₀ f₁ f₂ s : List ℕ) → NotRefused f₀ f₁ s → NotRefused f₁ f₂ s → NotRefused f₀ f₂ s
+chained-files f₀ f₁ f₂ s n m =
+    record {
+      no-line₀ = n .no-line₀;
+      no-line₁ = m .no-line₁;
+      kinds = n .kinds ∙ m .kinds;
+      settings-good = m .settings-good;
+    }
+
 pub chained-placements : ChainedPlacements
-chained-placements f₀ f₁ f₂ s inner outer e f =
-    let i = behind f₁ f₂ s inner e in
-    let o = behind f₀ f₁ s outer f in
-    listed-once f₀ f₂ s
-    (record {
-      no-line₀ = o .not-refused′ .no-line₀;
-      no-line₁ = i .not-refused′ .no-line₁;
-      kinds = o .not-refused′ .kinds ∙ i .not-refused′ .kinds;
-      settings-good = i .not-refused′ .settings-good;
-    })
-    (counts-chained (settingsOf s) (graphOf f₀) (graphOf f₁) (graphOf f₂) (o .agreed) (i .agreed))
-    (λ v. image outer (image inner v))
-    (chained (settingsOf s) (graphOf f₀) (graphOf f₁) (graphOf f₂) (image outer) (image inner) (finds-placement f₀ f₁ s outer f .places)
-    (finds-placement f₁ f₂ s inner e .places))
+chained-placements =
+    record {
+      not-refused = λ f₀ f₁ f₂ s h h′ b b′.
+          start-begins f₀ f₂ s (chained-files f₀ f₁ f₂ s (begun-free f₀ f₁ s h′ b′) (begun-free f₁ f₂ s h b));
+      counts-agree = λ f₀ f₁ f₂ s a b. counts-chained (settingsOf s) (graphOf f₀) (graphOf f₁) (graphOf f₂) b a;
+      listed-once = λ f₀ f₁ f₂ s inner outer e f.
+          let i = behind f₁ f₂ s inner e in
+          let o = behind f₀ f₁ s outer f in
+          listed-once f₀ f₂ s (chained-files f₀ f₁ f₂ s (o .not-refused′) (i .not-refused′))
+          (counts-chained (settingsOf s) (graphOf f₀) (graphOf f₁) (graphOf f₂) (o .agreed) (i .agreed))
+          (λ v. image outer (image inner v))
+          (chained (settingsOf s) (graphOf f₀) (graphOf f₁) (graphOf f₂) (image outer) (image inner)
+          (finds-placement f₀ f₁ s outer f .places) (finds-placement f₁ f₂ s inner e .places));
+    }
 
 exchanged-files : (f₀ f₁ s : List ℕ) → NotRefused f₀ f₁ s → NotRefused f₁ f₀ s
 exchanged-files f₀ f₁ s n =
@@ -103,7 +108,7 @@ exchanged-files f₀ f₁ s n =
     }
 
 -- the pairs of a map exchanged are the map turned round
-module _ (f₀ f₁ s : List ℕ) (n : NotRefused f₀ f₁ s) (agreed : CountsAgree f₀ f₁ s) (equal : settings f₀ f₁ s .greater ≡ false) (path : List ℕ) where
+module _ (f₀ f₁ s : List ℕ) (n : NotRefused f₀ f₁ s) (agreed : CountsAgree f₀ f₁ s) (equal : settingsOf s .greater ≡ false) (path : List ℕ) where
   abbrev g₀ : Graph
   g₀ = graphOf f₀
 

@@ -2,7 +2,7 @@
 -- maps and buffers are lists of bytes; what the calls answer stands in the rules' `Calls`, sessions of them in `Sessions`.
 use Prim.Native.Nat.{ℕ, suc, _+_, _*_, _≤_, _<_, min}
 use mathlib.Core.Bool.{Bool, true, false, cond}
-use mathlib.Core.List.{List, [], _∷_, _++_, map}
+use mathlib.Core.List.{List, _++_, map}
 use mathlib.Core.Logic.{_↔_}
 use mathlib.Core.Option.{Option, none, some}
 use mathlib.Core.Path.{_≡_}
@@ -19,35 +19,36 @@ use Rattle.order.specs.Order.{nodeOrder}
 use Rattle.order.specs.Paper.{orderSays, orderPaper}
 use Rattle.order.specs.declared.OrderAnswer.{OrderAnswer}
 use Rattle.rules.specs.Task.{Task, taskOf, exchange}
-use Rattle.rules.specs.Search.{started, Answer, Found, None, Limit, Paused}
+use Rattle.rules.specs.Search.{started, Answer, Found, None, Limit}
 use Rattle.rules.specs.Handed.{Handed, handed}
-use Rattle.rules.specs.Calls.{pairLines, StartSays, begun, startSays, ContinueSays, went, turnedAway, continueSays, CheckSays, yes, no, checkLines, CheckTells}
+use Rattle.rules.specs.Calls.{StartSays, begun, startSays, ContinueSays, went, turnedAway, continueSays, CheckSays, yes, no, checkLines, CheckTells}
 use Rattle.rules.specs.Placement.{Placement}
 use Rattle.placements.specs.Listed.{listed}
 use Rattle.placements.specs.Calls.{unlimited, after, acceptedIn}
 use Rattle.placements.specs.Claims.{graphsAgree, Each, AtLeastOne, permutations, idPairs}
-use Rattle.promises.specs.Sessions.{Map, mapIn, image, shows, Ending, Answered, Refused′, Session, session}
+use Rattle.promises.specs.Sessions.{Map, mapIn, image, shows, Ending, Answered, Session, session}
+
+-- the buffer that Continue needs
+abbrev pub LongEnough : List ℕ → List ℕ → Type 0
+LongEnough f₁ buffer = 2 * nodeCount f₁ ≤ length buffer
+
+-- (N0 + 2) times the sum of N0!/(N0-k)! for k from 0 to N1
+abbrev pub mostSteps : List ℕ → List ℕ → ℕ
+mostSteps f₀ f₁ = (nodeCount f₀ + 2) * permutations (nodeCount f₀) (nodeCount f₁)
 
 module _ (f₀ f₁ s : List ℕ) where
-  abbrev pub settings : Settings
-  settings = settingsOf s
-
   abbrev pub search : Task
-  search = taskOf settings (graphOf f₀) (graphOf f₁)
+  search = taskOf (settingsOf s) (graphOf f₀) (graphOf f₁)
 
   -- Start answers a record: neither the files nor the settings are refused
   abbrev pub Begins : Handed → Type 0
   Begins h = startSays f₀ f₁ s ≡ begun h
 
   abbrev pub CountsAgree : Type 0
-  CountsAgree = graphsAgree settings (graphOf f₀) (graphOf f₁) ≡ true
+  CountsAgree = graphsAgree (settingsOf s) (graphOf f₀) (graphOf f₁) ≡ true
 
   abbrev pub Places : (ℕ → ℕ) → Type 0
-  Places φ = Placement settings (graphOf f₀) (graphOf f₁) φ
-
-  -- the buffer that Continue needs
-  abbrev pub LongEnough : List ℕ → Type 0
-  LongEnough buffer = 2 * nodeCount f₁ ≤ length buffer
+  Places φ = Placement (settingsOf s) (graphOf f₀) (graphOf f₁) φ
 
   -- Found, with this map in the buffer
   pub record Finds (m : Map) : Type 0 where
@@ -63,16 +64,12 @@ module _ (f₀ f₁ s : List ℕ) where
   -- a map that is a placement, its pairs in graph 1's node order, each graph-1 id once
   pub record IsPlacement (m : Map) : Type 0 where
     pub places : Places (image m)
-    pub in-order : map (λ p. p .1) m ≡ nodeOrder (settings .vf2pp) (graphOf f₁)
+    pub in-order : map (λ p. p .1) m ≡ nodeOrder (settingsOf s .vf2pp) (graphOf f₁)
     pub each-once : (v : ℕ) → v < nodeCount f₁ → count (λ w. eqb w v) (map (λ p. p .1) m) ≡ 1
 
   -- the maps that the rules' search finds, from the empty path to its end, in its order
   abbrev pub mapsOfRules : List Map
-  mapsOfRules = map (idPairs settings (graphOf f₀) (graphOf f₁)) (listed search)
-
-  -- (N0 + 2) times the sum of N0!/(N0-k)! for k from 0 to N1
-  abbrev pub mostSteps : ℕ
-  mostSteps = (nodeCount f₀ + 2) * permutations (nodeCount f₀) (nodeCount f₁)
+  mapsOfRules = map (idPairs (settingsOf s) (graphOf f₀) (graphOf f₁)) (listed search)
 
 -- 1. Whatever the record, the budget and the limit, each map handed out is a placement; the rest of the buffer stays
 
@@ -95,31 +92,31 @@ module _ (f₀ f₁ s : List ℕ) where
 
   pub record ListingFrom (h : Handed) : Type 0 where
     -- it ends with None, and then the maps handed out are the listing
-    pub ends-whole : (budgets buffer : List ℕ) (e : Ending) → LongEnough f₀ f₁ s buffer → session f₀ f₁ s budgets h buffer .ending ≡ some e
+    pub ends-whole : (budgets buffer : List ℕ) (e : Ending) → LongEnough f₁ buffer → session f₀ f₁ s budgets h buffer .ending ≡ some e
         → (e ≡ Answered None) × HoldEveryPlacement (session f₀ f₁ s budgets h buffer .maps)
     -- before that, they are its first ones
-    pub first-maps : (budgets buffer : List ℕ) → LongEnough f₀ f₁ s buffer
+    pub first-maps : (budgets buffer : List ℕ) → LongEnough f₁ buffer
         → (rest : List Map) × (session f₀ f₁ s budgets h buffer .maps ++ rest ≡ mapsOfRules f₀ f₁ s)
     -- budgets change neither the maps nor their order nor the ending, nor anything else of what all calls come to
-    pub budgets-alike : (budgets others buffer : List ℕ) (e e′ : Ending) → LongEnough f₀ f₁ s buffer
+    pub budgets-alike : (budgets others buffer : List ℕ) (e e′ : Ending) → LongEnough f₁ buffer
         → session f₀ f₁ s budgets h buffer .ending ≡ some e → session f₀ f₁ s others h buffer .ending ≡ some e′
         → session f₀ f₁ s budgets h buffer ≡ session f₀ f₁ s others h buffer
-    pub steps-within : (budgets buffer : List ℕ) → LongEnough f₀ f₁ s buffer
-        → session f₀ f₁ s budgets h buffer .steps ≤ mostSteps f₀ f₁ s
+    pub steps-within : (budgets buffer : List ℕ) → LongEnough f₁ buffer
+        → session f₀ f₁ s budgets h buffer .steps ≤ mostSteps f₀ f₁
     -- with budgets of 1 or more the ending comes, after at most that many calls and one
-    pub ending-comes : (budgets buffer : List ℕ) → LongEnough f₀ f₁ s buffer → AtLeastOne budgets → mostSteps f₀ f₁ s < length budgets
+    pub ending-comes : (budgets buffer : List ℕ) → LongEnough f₁ buffer → AtLeastOne budgets → mostSteps f₀ f₁ < length budgets
         → session f₀ f₁ s budgets h buffer .ending ≡ some (Answered None)
     -- the accepted count is the number of pairs accepted; it stays at 4,294,967,295
-    pub accepted-counted : (budgets buffer : List ℕ) → LongEnough f₀ f₁ s buffer
+    pub accepted-counted : (budgets buffer : List ℕ) → LongEnough f₁ buffer
         → session f₀ f₁ s budgets h buffer .handed′ .accepted
         ≡ min (acceptedIn (unlimited (search f₀ f₁ s)) (session f₀ f₁ s budgets h buffer .steps) started) 4294967295
 
 pub record TheListing : Type 0 where
-  pub all-placements : (f₀ f₁ s : List ℕ) (h : Handed) → Begins f₀ f₁ s h → settings f₀ f₁ s .limit ≡ none → CountsAgree f₀ f₁ s
+  pub all-placements : (f₀ f₁ s : List ℕ) (h : Handed) → Begins f₀ f₁ s h → settingsOf s .limit ≡ none → CountsAgree f₀ f₁ s
       → ListingFrom f₀ f₁ s h
   -- if the counts don't agree, there is no map: the first answer is None
   pub no-map : (f₀ f₁ s : List ℕ) (h : Handed) → Begins f₀ f₁ s h → (CountsAgree f₀ f₁ s → ⊥)
-      → (budget : ℕ) (buffer : List ℕ) → LongEnough f₀ f₁ s buffer → continueSays f₀ f₁ s h budget buffer ≡ went None 0 h buffer
+      → (budget : ℕ) (buffer : List ℕ) → LongEnough f₁ buffer → continueSays f₀ f₁ s h budget buffer ≡ went None 0 h buffer
 
 -- 3. With a limit: the first maps of the listing without one, and Limit exactly where that accepts more pairs
 
@@ -137,32 +134,32 @@ withoutLimit s =
 module _ (f₀ f₁ s : List ℕ) where
   -- sessions with a limit, beside a whole one without
   pub record CutFrom (whole : Session) (limit : ℕ) (h : Handed) : Type 0 where
-    pub first-maps : (budgets buffer : List ℕ) → LongEnough f₀ f₁ s buffer
+    pub first-maps : (budgets buffer : List ℕ) → LongEnough f₁ buffer
         → (rest : List Map) × (session f₀ f₁ s budgets h buffer .maps ++ rest ≡ whole .maps)
-    pub ending : (budgets buffer : List ℕ) (e : Ending) → LongEnough f₀ f₁ s buffer → session f₀ f₁ s budgets h buffer .ending ≡ some e
+    pub ending : (budgets buffer : List ℕ) (e : Ending) → LongEnough f₁ buffer → session f₀ f₁ s budgets h buffer .ending ≡ some e
         → e ≡ Answered (cond (ltb limit (whole .handed′ .accepted)) Limit None)
-    pub whole-at-none : (budgets buffer : List ℕ) → LongEnough f₀ f₁ s buffer
+    pub whole-at-none : (budgets buffer : List ℕ) → LongEnough f₁ buffer
         → session f₀ f₁ s budgets h buffer .ending ≡ some (Answered None)
         → (session f₀ f₁ s budgets h buffer .maps ≡ whole .maps) × (session f₀ f₁ s budgets h buffer .steps ≡ whole .steps)
-    pub one-more-at-limit : (budgets buffer : List ℕ) → LongEnough f₀ f₁ s buffer
+    pub one-more-at-limit : (budgets buffer : List ℕ) → LongEnough f₁ buffer
         → session f₀ f₁ s budgets h buffer .ending ≡ some (Answered Limit)
         → session f₀ f₁ s budgets h buffer .handed′ .accepted ≡ suc limit
     -- the accepted count is the number of pairs accepted
-    pub accepted-counted : (budgets buffer : List ℕ) → LongEnough f₀ f₁ s buffer
+    pub accepted-counted : (budgets buffer : List ℕ) → LongEnough f₁ buffer
         → session f₀ f₁ s budgets h buffer .handed′ .accepted
         ≡ acceptedIn (unlimited (search f₀ f₁ s)) (session f₀ f₁ s budgets h buffer .steps) started
-    pub ending-comes : (budgets buffer : List ℕ) → LongEnough f₀ f₁ s buffer → AtLeastOne budgets → mostSteps f₀ f₁ s < length budgets
+    pub ending-comes : (budgets buffer : List ℕ) → LongEnough f₁ buffer → AtLeastOne budgets → mostSteps f₀ f₁ < length budgets
         → session f₀ f₁ s budgets h buffer .ending ≡ some (Answered (cond (ltb limit (whole .handed′ .accepted)) Limit None))
-    pub budgets-alike : (budgets others buffer : List ℕ) (e e′ : Ending) → LongEnough f₀ f₁ s buffer
+    pub budgets-alike : (budgets others buffer : List ℕ) (e e′ : Ending) → LongEnough f₁ buffer
         → session f₀ f₁ s budgets h buffer .ending ≡ some e → session f₀ f₁ s others h buffer .ending ≡ some e′
         → session f₀ f₁ s budgets h buffer ≡ session f₀ f₁ s others h buffer
 
 -- s has a limit, and s′ is s but for it
 abbrev pub WithALimit : Type 0
 WithALimit =
-    (f₀ f₁ s s′ : List ℕ) (h h′ : Handed) (limit : ℕ) → Begins f₀ f₁ s h → settings f₀ f₁ s .limit ≡ some limit
-    → Begins f₀ f₁ s′ h′ → settings f₀ f₁ s′ ≡ withoutLimit (settings f₀ f₁ s) → CountsAgree f₀ f₁ s
-    → (budgets buffer : List ℕ) → LongEnough f₀ f₁ s′ buffer → session f₀ f₁ s′ budgets h′ buffer .ending ≡ some (Answered None)
+    (f₀ f₁ s s′ : List ℕ) (h h′ : Handed) (limit : ℕ) → Begins f₀ f₁ s h → settingsOf s .limit ≡ some limit
+    → Begins f₀ f₁ s′ h′ → settingsOf s′ ≡ withoutLimit (settingsOf s) → CountsAgree f₀ f₁ s
+    → (budgets buffer : List ℕ) → LongEnough f₁ buffer → session f₀ f₁ s′ budgets h′ buffer .ending ≡ some (Answered None)
     → CutFrom f₀ f₁ s (session f₀ f₁ s′ budgets h′ buffer) limit h
 
 -- 4. A block on a module, and the module on a board
@@ -173,15 +170,18 @@ module _ (f₀ f₁ s : List ℕ) where
     pub not-refused : Begins f₀ f₁ s (handed started)
     pub counts-agree : CountsAgree f₀ f₁ s
     pub by-the-rules : count (shows (nodeCount f₁) φ) (mapsOfRules f₀ f₁ s) ≡ 1
-    pub in-each-session : (budgets buffer : List ℕ) → LongEnough f₀ f₁ s buffer
+    pub in-each-session : (budgets buffer : List ℕ) → LongEnough f₁ buffer
         → session f₀ f₁ s budgets (handed started) buffer .ending ≡ some (Answered None)
         → count (shows (nodeCount f₁) φ) (session f₀ f₁ s budgets (handed started) buffer .maps) ≡ 1
 
--- a map of the block on the module, followed by one of the module on the board, is listed for the block on the board
-abbrev pub ChainedPlacements : Type 0
-ChainedPlacements =
-    (board module′ block s : List ℕ) (inner outer : Map) → Finds module′ block s inner → Finds board module′ s outer
-    → ListedOnce board block s (λ v. image outer (image inner v))
+pub record ChainedPlacements : Type 0 where
+  -- two pairs of files that are not refused, and whose counts agree, say the same of the third
+  pub not-refused : (board module′ block s : List ℕ) (h h′ : Handed) → Begins module′ block s h → Begins board module′ s h′
+      → Begins board block s (handed started)
+  pub counts-agree : (board module′ block s : List ℕ) → CountsAgree module′ block s → CountsAgree board module′ s → CountsAgree board block s
+  -- a map of the block on the module, followed by one of the module on the board, is listed for the block on the board
+  pub listed-once : (board module′ block s : List ℕ) (inner outer : Map) → Finds module′ block s inner → Finds board module′ s outer
+      → ListedOnce board block s (λ v. image outer (image inner v))
 
 -- and whatever a session hands out, Continue finds
 abbrev pub SessionsFind : Type 0
@@ -191,7 +191,7 @@ SessionsFind = (f₀ f₁ s budgets buffer : List ℕ) (h : Handed) → Each (Fi
 
 pub record IdentityAndReverse : Type 0 where
   pub identity : (f s : List ℕ) → first (fileLines 0 f) ≡ none → first (settingsLines s) ≡ none → ListedOnce f f s (λ v. v)
-  pub reverse : (f₀ f₁ s : List ℕ) (m : Map) → settings f₀ f₁ s .greater ≡ false → Finds f₀ f₁ s m
+  pub reverse : (f₀ f₁ s : List ℕ) (m : Map) → settingsOf s .greater ≡ false → Finds f₀ f₁ s m
       → ListedOnce f₁ f₀ s (image (map exchange m))
 
 -- 6. Check says yes exactly for a placement, and so for a map of the listing
@@ -203,11 +203,11 @@ pub record CheckAgrees : Type 0 where
       → CheckTells f₀ f₁ s map′ no ↔ ((first (checkLines f₀ f₁ s map′) ≡ none) × (Places f₀ f₁ s (λ v. getD map′ v 0) → ⊥))
   -- where the counts agree, one map of each whole session shows what Check says yes to, and no map what it says no to
   pub yes-listed : (f₀ f₁ s map′ : List ℕ) (h : Handed) → first (checkLines f₀ f₁ s map′) ≡ none → Begins f₀ f₁ s h → CountsAgree f₀ f₁ s
-      → (budgets buffer : List ℕ) → LongEnough f₀ f₁ s buffer → session f₀ f₁ s budgets h buffer .ending ≡ some (Answered None)
+      → (budgets buffer : List ℕ) → LongEnough f₁ buffer → session f₀ f₁ s budgets h buffer .ending ≡ some (Answered None)
       → CheckTells f₀ f₁ s map′ yes
       ↔ (count (shows (nodeCount f₁) (λ v. getD map′ v 0)) (session f₀ f₁ s budgets h buffer .maps) ≡ 1)
   pub no-listed : (f₀ f₁ s map′ : List ℕ) (h : Handed) → first (checkLines f₀ f₁ s map′) ≡ none → Begins f₀ f₁ s h → CountsAgree f₀ f₁ s
-      → (budgets buffer : List ℕ) → LongEnough f₀ f₁ s buffer → session f₀ f₁ s budgets h buffer .ending ≡ some (Answered None)
+      → (budgets buffer : List ℕ) → LongEnough f₁ buffer → session f₀ f₁ s budgets h buffer .ending ≡ some (Answered None)
       → CheckTells f₀ f₁ s map′ no
       ↔ (count (shows (nodeCount f₁) (λ v. getD map′ v 0)) (session f₀ f₁ s budgets h buffer .maps) ≡ 0)
 
@@ -237,11 +237,11 @@ module _ (f₀ f₁ s : List ℕ) (h : Handed) where
   -- the next Continue with the same files and settings doesn't refuse with 9, and with a buffer long enough it doesn't refuse at all
   pub record AcceptedNext : Type 0 where
     pub not-nine : (budget : ℕ) (buffer : List ℕ) (r : Refused) → refusalOf (continueSays f₀ f₁ s h budget buffer) ≡ some r → r .number ≡ 9 → ⊥
-    pub goes : (budget : ℕ) (buffer : List ℕ) → LongEnough f₀ f₁ s buffer → refusalOf (continueSays f₀ f₁ s h budget buffer) ≡ none
+    pub goes : (budget : ℕ) (buffer : List ℕ) → LongEnough f₁ buffer → refusalOf (continueSays f₀ f₁ s h budget buffer) ≡ none
 
   -- after this many steps from Start, the search without a limit has depth, path and top of this record
   pub record PassedAfter (steps : ℕ) : Type 0 where
-    pub within : steps ≤ mostSteps f₀ f₁ s
+    pub within : steps ≤ mostSteps f₀ f₁
     pub same-depth : handed (after (unlimited (search f₀ f₁ s)) steps started) .depth ≡ h .depth
     pub same-path : handed (after (unlimited (search f₀ f₁ s)) steps started) .path ≡ h .path
     pub same-top : handed (after (unlimited (search f₀ f₁ s)) steps started) .top ≡ h .top
@@ -252,5 +252,5 @@ pub record RecordsMeanSomething : Type 0 where
       → continueSays f₀ f₁ s h budget buffer ≡ went answer steps h′ buffer′ → AcceptedNext f₀ f₁ s h′
   -- the accepted count aside; a path has 128 bytes
   pub passed-exactly : (f₀ f₁ s : List ℕ) (h₀ : Handed) → Begins f₀ f₁ s h₀ → CountsAgree f₀ f₁ s
-      → (h : Handed) (budget : ℕ) (buffer : List ℕ) → length (h .path) ≡ 128 → LongEnough f₀ f₁ s buffer
+      → (h : Handed) (budget : ℕ) (buffer : List ℕ) → length (h .path) ≡ 128 → LongEnough f₁ buffer
       → (refusalOf (continueSays f₀ f₁ s h budget buffer) ≡ none) ↔ ((steps : ℕ) × PassedAfter f₀ f₁ s h steps)
