@@ -5,6 +5,7 @@ pub mod Maps
 pub mod Sessions
 pub mod Records
 pub mod Listing
+pub mod Settings
 pub mod Limits
 pub mod Symmetries
 pub mod Checks

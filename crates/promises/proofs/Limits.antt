@@ -22,6 +22,9 @@ use Rattle.placements.proofs.Called.{Ends, ends-open, ends-none, ends-limit, ca
 use Rattle.placements.proofs.Listing.{limited}
 use Rattle.promises.specs.Sessions.{Map, Ending, Answered, Session, session}
 use Rattle.promises.specs.Promises.{Begins, CountsAgree, LongEnough, mapsOfRules, withoutLimit, CutFrom, WithALimit}
+use Rattle.rules.specs.Calls.{begun, orBegun}
+use Rattle.promises.proofs.Files.{begins, no-line}
+use Rattle.promises.proofs.Settings.{unlimitedBytes, unlimited-good, unlimited-settings}
 use Rattle.promises.proofs.Continued.{t, mapOfPath}
 use Rattle.promises.proofs.Sessions.{seen}
 use Rattle.promises.proofs.Listing.{ending-of, ending-same, limit-most, steps-most, begun-free, from-start, task-agrees, maps-first, rules-listing}
@@ -175,5 +178,15 @@ module _ (f₀ f₁ s s′ : List ℕ) (h h′ : Handed) (limit : ℕ) (b : Begi
         }
 
 pub with-a-limit : WithALimit
-with-a-limit f₀ f₁ s s′ h h′ limit b has b′ but agreed budgets buffer long ended =
-    cut-from f₀ f₁ s s′ h h′ limit b has b′ but agreed budgets buffer long ended
+with-a-limit =
+    record {
+      limit-dropped = λ f₀ f₁ s h b.
+          let n = begun-free f₀ f₁ s h b in
+          let bytes = unlimitedBytes (settingsOf s) in
+          let start = begins f₀ f₁ s h b .1 in
+          let free = no-line f₀ f₁ bytes
+          (record { no-line₀ = n .no-line₀; no-line₁ = n .no-line₁; kinds = n .kinds; settings-good = unlimited-good (settingsOf s) }) in
+          (bytes, ap orBegun free ∙ ap begun (sym start), unlimited-settings (settingsOf s));
+      cut-at-the-limit = λ f₀ f₁ s s′ h h′ limit b has b′ but agreed budgets buffer long ended.
+          cut-from f₀ f₁ s s′ h h′ limit b has b′ but agreed budgets buffer long ended;
+    }

@@ -154,13 +154,14 @@ module _ (f₀ f₁ s : List ℕ) where
         → session f₀ f₁ s budgets h buffer .ending ≡ some e → session f₀ f₁ s others h buffer .ending ≡ some e′
         → session f₀ f₁ s budgets h buffer ≡ session f₀ f₁ s others h buffer
 
--- s has a limit, and s′ is s but for it
-abbrev pub WithALimit : Type 0
-WithALimit =
-    (f₀ f₁ s s′ : List ℕ) (h h′ : Handed) (limit : ℕ) → Begins f₀ f₁ s h → settingsOf s .limit ≡ some limit
-    → Begins f₀ f₁ s′ h′ → settingsOf s′ ≡ withoutLimit (settingsOf s) → CountsAgree f₀ f₁ s
-    → (budgets buffer : List ℕ) → LongEnough f₁ buffer → session f₀ f₁ s′ budgets h′ buffer .ending ≡ some (Answered None)
-    → CutFrom f₀ f₁ s (session f₀ f₁ s′ budgets h′ buffer) limit h
+pub record WithALimit : Type 0 where
+  -- the same settings but for the limit are settings too
+  pub limit-dropped : (f₀ f₁ s : List ℕ) (h : Handed) → Begins f₀ f₁ s h
+      → (s′ : List ℕ) × Begins f₀ f₁ s′ h × (settingsOf s′ ≡ withoutLimit (settingsOf s))
+  pub cut-at-the-limit : (f₀ f₁ s s′ : List ℕ) (h h′ : Handed) (limit : ℕ) → Begins f₀ f₁ s h → settingsOf s .limit ≡ some limit
+      → Begins f₀ f₁ s′ h′ → settingsOf s′ ≡ withoutLimit (settingsOf s) → CountsAgree f₀ f₁ s
+      → (budgets buffer : List ℕ) → LongEnough f₁ buffer → session f₀ f₁ s′ budgets h′ buffer .ending ≡ some (Answered None)
+      → CutFrom f₀ f₁ s (session f₀ f₁ s′ budgets h′ buffer) limit h
 
 -- 4. A block on a module, and the module on a board
 
