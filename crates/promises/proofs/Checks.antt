@@ -16,16 +16,15 @@ use Rattle.packed.specs.Packed.{nodeCount, graphOf}
 use Rattle.packed.specs.Refusals.{Refused, first}
 use Rattle.packed.specs.Settings.{settingsOf}
 use Rattle.packed.proofs.Accepted.{nodes-of-graph}
-use Rattle.rules.specs.Search.{None}
-use Rattle.rules.specs.Handed.{Handed}
 use Rattle.rules.specs.Calls.{CheckSays, yes, no, rejected, checkLines, Proposes, Judged, CheckTells}
 use Rattle.placements.specs.Claims.{Each}
 use Rattle.placements.proofs.Tests.{all-elim}
-use Rattle.promises.specs.Sessions.{Map, image, shows, Answered, session}
-use Rattle.promises.specs.Promises.{Begins, CountsAgree, Places, LongEnough, IsPlacement, HoldEveryPlacement, CheckAgrees}
+use Rattle.promises.specs.Sessions.{Map, image, shows}
+use Rattle.promises.specs.Promises.{ListingMade, all-of, CountsAgree, Places, IsPlacement, HoldEveryPlacement, CheckAgrees}
+use Rattle.promises.proofs.Files.{some-none}
 use Rattle.promises.proofs.Maps.{placement-same}
 use Rattle.promises.proofs.Listing.{begun-free, holds-every-placement}
-use Rattle.promises.proofs.Symmetries.{whole-session}
+use Rattle.promises.proofs.Symmetries.{listing-made}
 
 yes-no : {C : Type 0} → yes ≡ no → C
 yes-no e = let z : _≡_ {A = ℕ} 0 1 = cc in absurd (omega arith)
@@ -35,9 +34,6 @@ yes-rejected r e = let z : _≡_ {A = ℕ} 0 1 = cc in absurd (omega arith)
 
 no-rejected : {C : Type 0} (r : Refused) → no ≡ rejected r → C
 no-rejected r e = let z : _≡_ {A = ℕ} 0 1 = cc in absurd (omega arith)
-
-some-none : {A C : Type 0} (x : A) → some x ≡ none → C
-some-none x e = let z : _≡_ {A = ℕ} 0 1 = cc in absurd (omega arith)
 
 judged-yes : (o : Option Refused) (P : Type 0) → Judged o P yes ↔ ((o ≡ none) × P)
 judged-yes none P = (⊎-elim (λ p. (refl, p .1)) (λ q. yes-no (q .0)), λ p. inl (refl, p .1))
@@ -77,17 +73,17 @@ module _ (f₀ f₁ s : List ℕ) where
       (all-elim (λ v. eqb (image m v) (φ v)) (nodeCount f₁) 0 e v (omega arith) (omega (arith, nodes-of-graph f₁))))
       (p .places)
 
-  module _ (map′ : List ℕ) (h : Handed) (free : first (checkLines f₀ f₁ s map′) ≡ none) (b : Begins f₀ f₁ s h) (agreed : CountsAgree f₀ f₁ s)
-      (budgets buffer : List ℕ) (long : LongEnough f₁ buffer)
-      (k : session f₀ f₁ s budgets h buffer .ending ≡ some (Answered None)) where
+  module _ (map′ : List ℕ) (l : ListingMade f₀ f₁ s) (free : first (checkLines f₀ f₁ s map′) ≡ none) (agreed : CountsAgree f₀ f₁ s) where
     abbrev φ : ℕ → ℕ
     φ v = getD map′ v 0
 
     abbrev maps : List Map
-    maps = session f₀ f₁ s budgets h buffer .maps
+    maps = all-of f₀ f₁ s l .maps
 
     holds : HoldEveryPlacement f₀ f₁ s maps
-    holds = rw (whole-session f₀ f₁ s h b agreed budgets buffer long k) (holds-every-placement f₀ f₁ s (begun-free f₀ f₁ s h b) agreed)
+    holds =
+        rw (listing-made f₀ f₁ s agreed l)
+        (holds-every-placement f₀ f₁ s (begun-free f₀ f₁ s (l .first-record) (l .begins)) agreed)
 
     yes-listed : CheckTells f₀ f₁ s map′ yes ↔ (count (shows (nodeCount f₁) φ) maps ≡ 1)
     yes-listed =
@@ -110,6 +106,6 @@ check-agrees =
     record {
       yes-exactly = λ f₀ f₁ s map′. judged-yes (first (checkLines f₀ f₁ s map′)) (Proposes f₀ f₁ s map′);
       no-exactly = λ f₀ f₁ s map′. judged-no (first (checkLines f₀ f₁ s map′)) (Proposes f₀ f₁ s map′);
-      yes-listed = λ f₀ f₁ s map′ h free b agreed budgets buffer long k. yes-listed f₀ f₁ s map′ h free b agreed budgets buffer long k;
-      no-listed = λ f₀ f₁ s map′ h free b agreed budgets buffer long k. no-listed f₀ f₁ s map′ h free b agreed budgets buffer long k;
+      yes-listed = λ f₀ f₁ s map′ l free agreed. yes-listed f₀ f₁ s map′ l free agreed;
+      no-listed = λ f₀ f₁ s map′ l free agreed. no-listed f₀ f₁ s map′ l free agreed;
     }

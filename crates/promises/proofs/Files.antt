@@ -18,7 +18,7 @@ use Rattle.rules.specs.Calls.{kindLines, pairLines, startSays, begun, orBegun}
 use Rattle.placements.specs.Claims.{OfOneKind}
 use Rattle.placements.proofs.Files.{files-ensure}
 
-some-none : {A C : Type 0} (x : A) → some x ≡ none → C
+pub some-none : {A C : Type 0} (x : A) → some x ≡ none → C
 some-none x e = let z : _≡_ {A = ℕ} 0 1 = cc in absurd (omega arith)
 
 pub none-of-both : (ls ms : List Line) → first (ls ++ ms) ≡ none → (first ls ≡ none) × (first ms ≡ none)

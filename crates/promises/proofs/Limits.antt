@@ -1,7 +1,7 @@
 -- Sessions with a limit, beside a whole one under the same settings but for the limit.
 use Prim.Native.Nat.{ℕ, _≤_, min}
 use mathlib.Core.Bool.{cond}
-use mathlib.Core.List.{List, [], map}
+use mathlib.Core.List.{List, map}
 use mathlib.Core.Option.{none, some}
 use mathlib.Core.Path.{_≡_, sym, _∙_, ap, fun-ext}
 use native.Mathlib.Omega.{arith}
@@ -18,16 +18,16 @@ use Rattle.placements.specs.Listed.{listed, stepsOf, acceptedOf}
 use Rattle.placements.specs.Calls.{Called, unlimited}
 use Rattle.placements.specs.Claims.{called, Limited, idPairs}
 use Rattle.placements.proofs.Unlimited.{pairs-same, limit-plays-no-part}
-use Rattle.placements.proofs.Called.{Ends, ends-open, ends-none, ends-limit, calls-end}
+use Rattle.placements.proofs.Called.{calls-end}
 use Rattle.placements.proofs.Listing.{limited}
 use Rattle.promises.specs.Sessions.{Map, Ending, Answered, Session, session}
-use Rattle.promises.specs.Promises.{Begins, CountsAgree, LongEnough, mapsOfRules, withoutLimit, CutFrom, WithALimit}
+use Rattle.promises.specs.Promises.{Begins, CountsAgree, LongEnough, mapsOfRules, withoutLimit, ListsFirstMaps, WithALimit}
 use Rattle.rules.specs.Calls.{begun, orBegun}
 use Rattle.promises.proofs.Files.{begins, no-line}
 use Rattle.promises.proofs.Settings.{unlimitedBytes, unlimited-good, unlimited-settings}
 use Rattle.promises.proofs.Continued.{t, mapOfPath}
 use Rattle.promises.proofs.Sessions.{seen}
-use Rattle.promises.proofs.Listing.{ending-of, ending-same, limit-most, steps-most, begun-free, from-start, task-agrees, maps-first, rules-listing}
+use Rattle.promises.proofs.Listing.{ending-of, ending-same, limit-most, steps-most, begun-free, from-start, task-agrees, maps-first, none-there, ended-alike}
 
 -- the limit plays no part in the listing's maps
 
@@ -59,16 +59,6 @@ module _ (set : Settings) (g₀ g₁ : Graph) where
   accepted-unlimited : acceptedOf (taskOf (withoutLimit set) g₀ g₁) ≡ acceptedOf (taskOf set g₀ g₁)
   unfolding taskOf
   accepted-unlimited = limit-plays-no-part (taskOf set g₀ g₁) .same-accepted
-
-none-limit : None ≡ Limit → ⊥
-none-limit e = let z : _≡_ {A = ℕ} 0 1 = cc in omega arith
-
--- at the end all pairs have been accepted
-accepted-at-none : (t : Task) (budgets : List ℕ) (w : Called t) → Ends t budgets [] 0 w → w .ending ≡ some None
-    → w .record′ .accepted ≡ min (acceptedOf t) 4294967295
-accepted-at-none t budgets w (ends-open a s c p q h) e = let z : _≡_ {A = ℕ} 0 1 = cc in absurd (omega arith)
-accepted-at-none t budgets w (ends-none a d q x y z v) e = z
-accepted-at-none t budgets w (ends-limit a s c p q) e = let k : None ≡ Limit = cc in absurd (none-limit k)
 
 below-most : (limit k : ℕ) → limit ≤ 4294967294 → ltb limit (min k 4294967295) ≡ ltb limit k
 below-most limit k small =
@@ -111,26 +101,20 @@ module _ (f₀ f₁ s s′ : List ℕ) (h h′ : Handed) (limit : ℕ) (b : Begi
     whole-is : whole ≡ seen f₀ f₁ s′ (called (t f₀ f₁ s′) all) buffer′
     whole-is = from-start f₀ f₁ s′ h′ b′ all buffer′ long′
 
-    rules-ended : called (t f₀ f₁ s′) all .ending ≡ some None
-    rules-ended = ending-same (called (t f₀ f₁ s′) all .ending) None (sym (ap (λ z. z .ending) whole-is) ∙ ended)
-
     whole-maps : whole .maps ≡ mapsOfRules f₀ f₁ s
     whole-maps =
         ap (λ z. z .maps) whole-is
-        ∙ ap (map (mapOfPath f₀ f₁ s′)) (rules-listing f₀ f₁ s′ h′ b′ agreed′ free′ .calls-whole all None rules-ended .1)
+        ∙ ap (map (mapOfPath f₀ f₁ s′)) (none-there f₀ f₁ s′ h′ b′ agreed′ all buffer′ long′ ended .0)
         ∙ same-maps
 
     whole-steps : whole .steps ≡ stepsOf (t f₀ f₁ s)
     whole-steps =
-        ap (λ z. z .steps) whole-is
-        ∙ rules-listing f₀ f₁ s′ h′ b′ agreed′ free′ .calls-whole all None rules-ended .2
-        ∙ same-steps
+        ap (λ z. z .steps) whole-is ∙ none-there f₀ f₁ s′ h′ b′ agreed′ all buffer′ long′ ended .1 ∙ same-steps
 
     whole-accepted : whole .handed′ .accepted ≡ min (acceptedOf (t f₀ f₁ s)) 4294967295
     whole-accepted =
         ap (λ z. z .handed′ .accepted) whole-is
-        ∙ accepted-at-none (t f₀ f₁ s′) all (called (t f₀ f₁ s′) all)
-        (calls-end (t f₀ f₁ s′) (limit-most f₀ f₁ s′ (begun-free f₀ f₁ s′ h′ b′)) (task-agrees f₀ f₁ s′ h′ b′ agreed′) all) rules-ended
+        ∙ none-there f₀ f₁ s′ h′ b′ agreed′ all buffer′ long′ ended .2
         ∙ ap (λ k. min k 4294967295) same-accepted
 
     compared : ltb limit (whole .handed′ .accepted) ≡ ltb limit (acceptedOf (t f₀ f₁ s))
@@ -152,30 +136,22 @@ module _ (f₀ f₁ s s′ : List ℕ) (h h′ : Handed) (limit : ℕ) (b : Begi
           let a = ending-of (part .ending) e (sym (ap (λ z. z .ending) is) ∙ k) in
           rw compared (a .2 ∙ ap Answered (cut .ending budgets (a .0) (a .1)))
 
-    cut-from : CutFrom f₀ f₁ s whole limit h
-    cut-from =
-        record {
-          first-maps = λ budgets buffer long.
-              let r = maps-first f₀ f₁ s h b agreed budgets buffer long in (r .0, r .1 ∙ sym whole-maps);
-          ending = λ budgets buffer e long k. ending-is budgets buffer long e k;
-          whole-at-none = λ budgets buffer long k.
-              let w = cut .ended-none budgets (rules-ending budgets buffer long None k) in (
-                ap (λ z. z .maps) (is budgets buffer long) ∙ ap (map (mapOfPath f₀ f₁ s)) (w .0) ∙ sym whole-maps,
-                ap (λ z. z .steps) (is budgets buffer long) ∙ w .1 ∙ sym whole-steps,
-              );
-          one-more-at-limit = λ budgets buffer long k.
-              let w = cut .ended-limit budgets (rules-ending budgets buffer long Limit k) in
-              rw (is budgets buffer long, cut .accepted-exact budgets, w .1) (w .3);
-          accepted-counted = λ budgets buffer long. rw (is budgets buffer long) (cut .accepted-exact budgets);
-          ending-comes = λ budgets buffer long one more.
-              rw (is budgets buffer long, compared, cut .calls-end budgets one (omega (arith, steps-most f₀ f₁ s)));
-          budgets-alike = λ budgets others buffer e e′ long k k′.
-              let a = ending-of (part budgets buffer long .ending) e (sym (ap (λ z. z .ending) (is budgets buffer long)) ∙ k) in
-              let a′ = ending-of (part others buffer long .ending) e′ (sym (ap (λ z. z .ending) (is others buffer long)) ∙ k′) in
-              is budgets buffer long
-              ∙ ap (λ c. seen f₀ f₁ s c buffer) (cut .budgets-alike budgets others (a .0) (a′ .0) (a .1) (a′ .1))
-              ∙ sym (is others buffer long);
-        }
+      lists-first : ListsFirstMaps f₀ f₁ s h budgets buffer limit whole
+      lists-first =
+          record {
+            first-maps = let r = maps-first f₀ f₁ s h b agreed budgets buffer long in (r .0, r .1 ∙ sym whole-maps);
+            ending = ending-is;
+            ending-comes = λ one more. rw (is, compared, cut .calls-end budgets one (omega (arith, steps-most f₀ f₁ s)));
+            whole-at-none = λ k.
+                let w = cut .ended-none budgets (rules-ending None k) in (
+                  ap (λ z. z .maps) is ∙ ap (map (mapOfPath f₀ f₁ s)) (w .0) ∙ sym whole-maps,
+                  ap (λ z. z .steps) is ∙ w .1 ∙ sym whole-steps,
+                );
+            one-more-at-limit = λ k.
+                let w = cut .ended-limit budgets (rules-ending Limit k) in rw (is, cut .accepted-exact budgets, w .1) (w .3);
+            accepted-counted = rw is (cut .accepted-exact budgets);
+            budgets-alike = λ others e e′ k k′. ended-alike f₀ f₁ s h b (cut .budgets-alike) budgets others buffer e e′ long k k′;
+          }
 
 pub with-a-limit : WithALimit
 with-a-limit =
@@ -187,6 +163,7 @@ with-a-limit =
           let free = no-line f₀ f₁ bytes
           (record { no-line₀ = n .no-line₀; no-line₁ = n .no-line₁; kinds = n .kinds; settings-good = unlimited-good (settingsOf s) }) in
           (bytes, ap orBegun free ∙ ap begun (sym start), unlimited-settings (settingsOf s));
-      cut-at-the-limit = λ f₀ f₁ s s′ h h′ limit b has b′ but agreed budgets buffer long ended.
-          cut-from f₀ f₁ s s′ h h′ limit b has b′ but agreed budgets buffer long ended;
+      first-maps = λ f₀ f₁ s s′ h budgets buffer limit whole b has but agreed long.
+          lists-first f₀ f₁ s s′ h (whole .first-record) limit b has (whole .begins) but agreed (whole .budgets) (whole .buffer)
+          (whole .long-enough) (whole .ended) budgets buffer long;
     }

@@ -1,5 +1,5 @@
 -- The listing over bytes: sessions from Start are the rules' calls from Start, whose maps are all placements.
-use Prim.Native.Nat.{ℕ, _≤_}
+use Prim.Native.Nat.{ℕ, _≤_, min}
 use mathlib.Core.Bool.{true, false}
 use mathlib.Core.List.{List, [], _∷_, _++_, map}
 use mathlib.Core.Option.{Option, none, some}
@@ -12,22 +12,24 @@ use Rattle.packed.specs.Graph.{nodes}
 use Rattle.packed.specs.Packed.{nodeCount, graphOf}
 use Rattle.packed.specs.Settings.{settingsOf}
 use Rattle.packed.proofs.Accepted.{nodes-of-graph}
-use Rattle.rules.specs.Task.{taskOf, countsAgree}
-use Rattle.rules.specs.Search.{Answer, None, started}
+use Rattle.rules.specs.Task.{Task, taskOf, countsAgree}
+use Rattle.rules.specs.Search.{Answer, None, Limit, started}
 use Rattle.rules.specs.Handed.{Handed}
 use Rattle.rules.specs.Calls.{went, wentOn, continueSays}
 use Rattle.rules.specs.Placement.{Placement}
 use Rattle.rules.proofs.Laws.{all-same-from}
-use Rattle.placements.specs.Listed.{listed, stepsOf}
-use Rattle.placements.specs.Claims.{Each, LimitMost, called, FromStart, Listing, idImage, showsIds}
+use Rattle.placements.specs.Calls.{Called}
+use Rattle.placements.specs.Listed.{listed, stepsOf, acceptedOf}
+use Rattle.placements.specs.Claims.{Each, LimitMost, BudgetsAlike, called, FromStart, Listing, idImage, showsIds}
 use Rattle.placements.proofs.Renumbered.{renumbered-placements}
 use Rattle.placements.proofs.Accepted.{accepted-stays}
 use Rattle.placements.proofs.Bound.{steps-within}
 use Rattle.placements.proofs.Called.{calls-end}
 use Rattle.placements.proofs.Files.{settings-ensure}
-use Rattle.placements.proofs.Listing.{no-map, listing, first-calls}
+use Rattle.placements.proofs.Called.{Ends, ends-open, ends-none, ends-limit, calls-end}
+use Rattle.placements.proofs.Listing.{no-map, each-map, listing, first-calls}
 use Rattle.promises.specs.Sessions.{Map, image, shows, Ending, Answered, session}
-use Rattle.promises.specs.Promises.{Begins, CountsAgree, LongEnough, IsPlacement, mapsOfRules, mostSteps, HoldEveryPlacement, ListingFrom, TheListing}
+use Rattle.promises.specs.Promises.{ListsAllPlacements, Begins, CountsAgree, LongEnough, IsPlacement, mapsOfRules, mostSteps, HoldEveryPlacement, TheListing}
 use Rattle.promises.proofs.Files.{NotRefused, not-refused, of-one-kind, begins}
 use Rattle.promises.proofs.Continued.{t, most-steps, mapOfPath}
 use Rattle.promises.proofs.Maps.{counts-of-task, listing-ids, path-image, path-placement}
@@ -46,9 +48,15 @@ each-of-map : {A B : Type 0} (P : B → Type 0) (f : A → B) (xs : List A) → 
 each-of-map P f [] e = tt
 each-of-map P f (x ∷ xs) e = (e .0, each-of-map P f xs (e .1))
 
-each-more : {A : Type 0} (P Q : A → Type 0) (xs : List A) → ((x : A) → P x → Q x) → Each P xs → Each Q xs
-each-more P Q [] h e = tt
-each-more P Q (x ∷ xs) h e = (h x (e .0), each-more P Q xs h (e .1))
+none-limit : None ≡ Limit → ⊥
+none-limit e = let z : _≡_ {A = ℕ} 0 1 = cc in omega arith
+
+-- calls that ended with None, with a limit or without, found the whole listing and accepted all of its pairs
+pub none-ended : (t : Task) (budgets : List ℕ) (w : Called t) → Ends t budgets [] 0 w → w .ending ≡ some None
+    → (w .maps ≡ listed t) × (w .steps ≡ stepsOf t) × (w .record′ .accepted ≡ min (acceptedOf t) 4294967295)
+none-ended t budgets w (ends-open a s c p q h) e = let z : _≡_ {A = ℕ} 0 1 = cc in absurd (omega arith)
+none-ended t budgets w (ends-none a d q x y z v) e = (d, omega arith, z)
+none-ended t budgets w (ends-limit a s c p q) e = let k : None ≡ Limit = cc in absurd (none-limit k)
 
 module _ (f₀ f₁ s : List ℕ) where
   module _ (n : NotRefused f₀ f₁ s) (agreed : CountsAgree f₀ f₁ s) where
@@ -66,7 +74,7 @@ module _ (f₀ f₁ s : List ℕ) where
         record {
           all-place =
               each-of-map (IsPlacement f₀ f₁ s) (mapOfPath f₀ f₁ s) (listed (t f₀ f₁ s))
-              (each-more (λ path. Placement (settingsOf s) (graphOf f₀) (graphOf f₁) (idImage (settingsOf s) (graphOf f₀) (graphOf f₁) path))
+              (each-map (λ path. Placement (settingsOf s) (graphOf f₀) (graphOf f₁) (idImage (settingsOf s) (graphOf f₀) (graphOf f₁) path))
               (λ path. IsPlacement f₀ f₁ s (mapOfPath f₀ f₁ s path))
               (listed (t f₀ f₁ s)) (path-placement f₀ f₁ s n agreed) (ids .all-place));
           each-once = λ φ p.
@@ -93,6 +101,17 @@ module _ (f₀ f₁ s : List ℕ) where
     from-start budgets buffer long =
         ap (λ h. session f₀ f₁ s budgets h buffer) (begins f₀ f₁ s h b .1)
         ∙ session-seen f₀ f₁ s (begins f₀ f₁ s h b .0) budgets started buffer (accepted-stays (t f₀ f₁ s) .at-start) long
+
+    -- what budgets don't change of the rules' calls, they don't change of a session
+    pub ended-alike : BudgetsAlike (t f₀ f₁ s) → (budgets others buffer : List ℕ) (e e′ : Ending) → LongEnough f₁ buffer
+        → session f₀ f₁ s budgets h buffer .ending ≡ some e → session f₀ f₁ s others h buffer .ending ≡ some e′
+        → session f₀ f₁ s budgets h buffer ≡ session f₀ f₁ s others h buffer
+    ended-alike alike budgets others buffer e e′ long k k′ =
+        let is = from-start budgets buffer long in
+        let other = from-start others buffer long in
+        let a = ending-of (called (t f₀ f₁ s) budgets .ending) e (sym (ap (λ z. z .ending) is) ∙ k) in
+        let a′ = ending-of (called (t f₀ f₁ s) others .ending) e′ (sym (ap (λ z. z .ending) other) ∙ k′) in
+        is ∙ ap (λ c. seen f₀ f₁ s c buffer) (alike budgets others (a .0) (a′ .0) (a .1) (a′ .1)) ∙ sym other
 
     no-first-map : (CountsAgree f₀ f₁ s → ⊥) → (budget : ℕ) (buffer : List ℕ) → LongEnough f₁ buffer
         → continueSays f₀ f₁ s h budget buffer ≡ went None 0 h buffer
@@ -121,42 +140,43 @@ module _ (f₀ f₁ s : List ℕ) where
                 ∙ ap (map (mapOfPath f₀ f₁ s)) (r .1),
           )
 
+      -- the rules' calls of a session that came to None
+      pub none-there : (budgets buffer : List ℕ) → LongEnough f₁ buffer → session f₀ f₁ s budgets h buffer .ending ≡ some (Answered None)
+          → (called (t f₀ f₁ s) budgets .maps ≡ listed (t f₀ f₁ s))
+          × (called (t f₀ f₁ s) budgets .steps ≡ stepsOf (t f₀ f₁ s))
+          × (called (t f₀ f₁ s) budgets .record′ .accepted ≡ min (acceptedOf (t f₀ f₁ s)) 4294967295)
+      none-there budgets buffer long k =
+          let c = called (t f₀ f₁ s) budgets in
+          none-ended (t f₀ f₁ s) budgets c (calls-end (t f₀ f₁ s) (limit-most begun-free) task-agrees budgets)
+          (ending-same (c .ending) None (sym (ap (λ z. z .ending) (from-start budgets buffer long)) ∙ k))
+
       pub rules-listing : settingsOf s .limit ≡ none → Listing (t f₀ f₁ s)
       unfolding taskOf
       rules-listing free =
           listing (t f₀ f₁ s) (renumbered-placements (settingsOf s) (graphOf f₀) (graphOf f₁) (of-one-kind f₀ f₁ s begun-free) .sound)
           task-agrees free
 
-      pub listing-from : settingsOf s .limit ≡ none → ListingFrom f₀ f₁ s h
-      listing-from free =
+      lists-all : settingsOf s .limit ≡ none → (budgets buffer : List ℕ) → LongEnough f₁ buffer → ListsAllPlacements f₀ f₁ s h budgets buffer
+      lists-all free budgets buffer long =
           let l = rules-listing free in
+          let is = from-start budgets buffer long in
           record {
-            ends-whole = λ budgets buffer e long k.
-                let is = from-start budgets buffer long in
+            ends-whole = λ e k.
                 let a = ending-of (called (t f₀ f₁ s) budgets .ending) e (sym (ap (λ z. z .ending) is) ∙ k) in
                 let w = l .calls-whole budgets (a .0) (a .1) in (
                   a .2 ∙ ap Answered (w .0),
                   rw (is, w .1) (holds-every-placement begun-free agreed),
                 );
-            first-maps = maps-first;
-            budgets-alike = λ budgets others buffer e e′ long k k′.
-                let is = from-start budgets buffer long in
-                let other = from-start others buffer long in
-                let a = ending-of (called (t f₀ f₁ s) budgets .ending) e (sym (ap (λ z. z .ending) is) ∙ k) in
-                let a′ = ending-of (called (t f₀ f₁ s) others .ending) e′ (sym (ap (λ z. z .ending) other) ∙ k′) in
-                is
-                ∙ ap (λ c. seen f₀ f₁ s c buffer) (l .budgets-alike budgets others (a .0) (a′ .0) (a .1) (a′ .1))
-                ∙ sym other;
-            steps-within = λ budgets buffer long.
-                rw (from-start budgets buffer long) (omega (arith, calls-first budgets .steps-within, most-steps f₀ f₁ s));
-            ending-comes = λ budgets buffer long one more.
-                rw (from-start budgets buffer long, l .calls-end budgets one (omega (arith, steps-most)));
-            accepted-counted = λ budgets buffer long. rw (from-start budgets buffer long) (calls-first budgets .accepted);
+            first-maps = maps-first budgets buffer long;
+            steps-within = rw is (omega (arith, calls-first budgets .steps-within, most-steps f₀ f₁ s));
+            ending-comes = λ one more. rw (is, l .calls-end budgets one (omega (arith, steps-most)));
+            budgets-alike = λ others e e′ k k′. ended-alike (l .budgets-alike) budgets others buffer e e′ long k k′;
+            accepted-counted = rw is (calls-first budgets .accepted);
           }
 
 pub the-listing : TheListing
 the-listing =
     record {
-      all-placements = λ f₀ f₁ s h b free agreed. listing-from f₀ f₁ s h b agreed free;
-      no-map = λ f₀ f₁ s h b differ budget buffer long. no-first-map f₀ f₁ s h b differ budget buffer long;
+      all-placements = λ f₀ f₁ s h budgets buffer b free agreed long. lists-all f₀ f₁ s h b agreed free budgets buffer long;
+      no-map = λ f₀ f₁ s h budget buffer b differ long. no-first-map f₀ f₁ s h b differ budget buffer long;
     }

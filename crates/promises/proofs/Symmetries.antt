@@ -1,52 +1,36 @@
 -- Whatever is a placement of two files that are not refused and whose counts agree is listed once: chains, the identity, reverses.
 use Prim.Native.Nat.{ℕ}
 use mathlib.Core.Bool.{false}
-use mathlib.Core.List.{List, [], map}
-use mathlib.Core.Option.{some}
+use mathlib.Core.List.{List, map}
 use mathlib.Core.Path.{_≡_, refl, sym, _∙_, ap, subst}
-use native.Mathlib.Omega.{arith}
 use Rattle.packed.specs.Graph.{Graph, nodes}
 use Rattle.packed.specs.Packed.{graphOf}
 use Rattle.packed.specs.Settings.{settingsOf, settingsLines}
 use Rattle.order.specs.Order.{nodeOrder}
 use Rattle.order.proofs.Once.{order-member, order-distinct}
 use Rattle.lists.proofs.Distinct.{distinct-below}
-use Rattle.rules.specs.Task.{Task, exchange}
-use Rattle.rules.specs.Search.{None, Limit, started}
-use Rattle.rules.specs.Handed.{Handed, handed}
+use Rattle.rules.specs.Task.{exchange}
+use Rattle.rules.specs.Search.{started}
+use Rattle.rules.specs.Handed.{handed}
 use Rattle.rules.specs.Calls.{orBegun}
-use Rattle.placements.specs.Listed.{listed}
-use Rattle.placements.specs.Calls.{Called}
-use Rattle.placements.specs.Claims.{reverse, called, idImage}
-use Rattle.placements.proofs.Called.{Ends, ends-open, ends-none, ends-limit, calls-end}
+use Rattle.placements.specs.Claims.{reverse, idImage}
 use Rattle.placements.proofs.Symmetries.{identity, chained, counts-chained, reversed}
 use Rattle.placements.proofs.Ids.{counts-own, counts-back}
-use Rattle.promises.specs.Sessions.{Map, image, Answered, session}
-use Rattle.promises.specs.Promises.{Begins, CountsAgree, Places, LongEnough, Finds, IsPlacement, mapsOfRules, ListedOnce, ChainedPlacements, IdentityAndReverse}
+use Rattle.promises.specs.Sessions.{Map, image}
+use Rattle.promises.specs.Promises.{ListingMade, all-of, Begins, CountsAgree, Places, Finds, IsPlacement, mapsOfRules, ListedOnce, ChainedPlacements, IdentityAndReverse}
 use Rattle.promises.proofs.Files.{NotRefused, not-refused, no-line, of-one-kind, file-either, none-of-cons}
 use Rattle.promises.proofs.Bytes.{image-back}
-use Rattle.promises.proofs.Continued.{t, mapOfPath}
+use Rattle.promises.proofs.Continued.{mapOfPath}
 use Rattle.promises.proofs.Maps.{placement-same, path-shows, Found′, found, found-map, found-placement}
-use Rattle.promises.proofs.Listing.{ending-same, limit-most, begun-free, from-start, task-agrees, holds-every-placement}
-
-none-limit : None ≡ Limit → ⊥
-none-limit e = let z : _≡_ {A = ℕ} 0 1 = cc in omega arith
-
-listed-at-none : (t : Task) (budgets : List ℕ) (w : Called t) → Ends t budgets [] 0 w → w .ending ≡ some None → w .maps ≡ listed t
-listed-at-none t budgets w (ends-open a s c p q h) e = let z : _≡_ {A = ℕ} 0 1 = cc in absurd (omega arith)
-listed-at-none t budgets w (ends-none a d q x y z v) e = d
-listed-at-none t budgets w (ends-limit a s c p q) e = let k : None ≡ Limit = cc in absurd (none-limit k)
+use Rattle.promises.proofs.Listing.{begun-free, from-start, none-there, holds-every-placement}
 
 module _ (f₀ f₁ s : List ℕ) where
-  -- with a limit or without, a session that ends with None has handed out the whole listing
-  pub whole-session : (h : Handed) → Begins f₀ f₁ s h → CountsAgree f₀ f₁ s → (budgets buffer : List ℕ) → LongEnough f₁ buffer
-      → session f₀ f₁ s budgets h buffer .ending ≡ some (Answered None) → session f₀ f₁ s budgets h buffer .maps ≡ mapsOfRules f₀ f₁ s
-  whole-session h b agreed budgets buffer long k =
-      let is = from-start f₀ f₁ s h b budgets buffer long in
-      let c = called (t f₀ f₁ s) budgets in
-      let ended = ending-same (c .ending) None (sym (ap (λ z. z .ending) is) ∙ k) in
-      let all = calls-end (t f₀ f₁ s) (limit-most f₀ f₁ s (begun-free f₀ f₁ s h b)) (task-agrees f₀ f₁ s h b agreed) budgets in
-      ap (λ z. z .maps) is ∙ ap (map (mapOfPath f₀ f₁ s)) (listed-at-none (t f₀ f₁ s) budgets c all ended)
+  -- with a limit or without, calls that came to None have handed out the whole listing
+  pub listing-made : CountsAgree f₀ f₁ s → (l : ListingMade f₀ f₁ s) → all-of f₀ f₁ s l .maps ≡ mapsOfRules f₀ f₁ s
+  listing-made agreed l =
+      ap (λ z. z .maps) (from-start f₀ f₁ s (l .first-record) (l .begins) (l .budgets) (l .buffer) (l .long-enough))
+      ∙ ap (map (mapOfPath f₀ f₁ s))
+      (none-there f₀ f₁ s (l .first-record) (l .begins) agreed (l .budgets) (l .buffer) (l .long-enough) (l .ended) .0)
 
   start-begins : NotRefused f₀ f₁ s → Begins f₀ f₁ s (handed started)
   start-begins n = ap orBegun (no-line f₀ f₁ s n)
@@ -58,7 +42,7 @@ module _ (f₀ f₁ s : List ℕ) where
         not-refused = start-begins n;
         counts-agree = agreed;
         by-the-rules = once;
-        in-each-session = λ budgets buffer long k. rw (whole-session (handed started) (start-begins n) agreed budgets buffer long k) once;
+        by-the-calls = λ l. rw (listing-made agreed l) once;
       }
 
   -- what a call that finds a map says of it

@@ -13,10 +13,10 @@ use Rattle.order.specs.Renumber.{renumbered}
 use Rattle.rules.specs.Task.{taskOf, partner}
 use Rattle.rules.specs.Marks.{follows, candidate, nextFrom}
 use Rattle.rules.specs.Acceptable.{all, covers, labelledEntries, carried, removed, isSubset, linked, labelled, ahead, sameLabel, feasible, acceptable}
-use Rattle.rules.specs.Search.{started, pairsOf, mapOf, onward, accepts, offered, step, None, Limit, run, acceptedPath, acceptedRecord}
+use Rattle.rules.specs.Search.{started, pairsOf, mapOf, onward, accepts, offered, step, None, run, acceptedPath, acceptedRecord}
 use Rattle.rules.specs.Handed.{chosen, inOrder, handed}
 use Rattle.rules.specs.Calls.{begun, startSays, idPairs}
-use Rattle.promises.specs.Sessions.{Map, mapIn, Ending, Answered, Session, session}
+use Rattle.promises.specs.Sessions.{mapIn, Answered, Session, session}
 
 abbrev pub pathOfThree : List ℕ
 pathOfThree = 0x01 ∷ 0x80 ∷ 0x20 ∷ 0 ∷ 0 ∷ 0 ∷ 0 ∷ 0 ∷ 0x04 ∷ 0 ∷ 0x20 ∷ 0x80 ∷ []

@@ -67,6 +67,18 @@ module _ (f₀ f₁ s : List ℕ) where
     pub in-order : map (λ p. p .1) m ≡ nodeOrder (settingsOf s .vf2pp) (graphOf f₁)
     pub each-once : (v : ℕ) → v < nodeCount f₁ → count (λ w. eqb w v) (map (λ p. p .1) m) ≡ 1
 
+  -- calls from Start's record, with a buffer that is long enough, that came to None; and all that they came to
+  pub record ListingMade : Type 0 where
+    pub first-record : Handed
+    pub budgets : List ℕ
+    pub buffer : List ℕ
+    pub begins : Begins first-record
+    pub long-enough : LongEnough f₁ buffer
+    pub ended : session f₀ f₁ s budgets first-record buffer .ending ≡ some (Answered None)
+
+  abbrev pub all-of : ListingMade → Session
+  all-of l = session f₀ f₁ s (l .budgets) (l .first-record) (l .buffer)
+
   -- the maps that the rules' search finds, from the empty path to its end, in its order
   abbrev pub mapsOfRules : List Map
   mapsOfRules = map (idPairs (settingsOf s) (graphOf f₀) (graphOf f₁)) (listed search)
@@ -81,7 +93,11 @@ EveryMapIsAPlacement =
     × (length buffer′ ≡ length buffer)
     × (drop (2 * nodeCount f₁) buffer′ ≡ drop (2 * nodeCount f₁) buffer)
 
--- 2. The listing: Start's record, no limit, counts that agree, and Continue called with any budgets until it answers None
+-- and every map of a session is one that Continue finds
+abbrev pub SessionsFind : Type 0
+SessionsFind = (f₀ f₁ s budgets buffer : List ℕ) (h : Handed) → Each (Finds f₀ f₁ s) (session f₀ f₁ s budgets h buffer .maps)
+
+-- 2. The listing: Continue called from Start's record with any budgets, without a limit, where the counts agree
 
 module _ (f₀ f₁ s : List ℕ) where
   -- every placement exactly once and nothing else, in the order of the rules
@@ -90,35 +106,31 @@ module _ (f₀ f₁ s : List ℕ) where
     pub each-once : (φ : ℕ → ℕ) → Places f₀ f₁ s φ → count (shows (nodeCount f₁) φ) maps ≡ 1
     pub as-the-rules-order : maps ≡ mapsOfRules f₀ f₁ s
 
-  pub record ListingFrom (h : Handed) : Type 0 where
-    -- it ends with None, and then the maps handed out are the listing
-    pub ends-whole : (budgets buffer : List ℕ) (e : Ending) → LongEnough f₁ buffer → session f₀ f₁ s budgets h buffer .ending ≡ some e
-        → (e ≡ Answered None) × HoldEveryPlacement (session f₀ f₁ s budgets h buffer .maps)
-    -- before that, they are its first ones
-    pub first-maps : (budgets buffer : List ℕ) → LongEnough f₁ buffer
-        → (rest : List Map) × (session f₀ f₁ s budgets h buffer .maps ++ rest ≡ mapsOfRules f₀ f₁ s)
-    -- budgets change neither the maps nor their order nor the ending, nor anything else of what all calls come to
-    pub budgets-alike : (budgets others buffer : List ℕ) (e e′ : Ending) → LongEnough f₁ buffer
-        → session f₀ f₁ s budgets h buffer .ending ≡ some e → session f₀ f₁ s others h buffer .ending ≡ some e′
-        → session f₀ f₁ s budgets h buffer ≡ session f₀ f₁ s others h buffer
-    pub steps-within : (budgets buffer : List ℕ) → LongEnough f₁ buffer
-        → session f₀ f₁ s budgets h buffer .steps ≤ mostSteps f₀ f₁
-    -- with budgets of 1 or more the ending comes, after at most that many calls and one
-    pub ending-comes : (budgets buffer : List ℕ) → LongEnough f₁ buffer → AtLeastOne budgets → mostSteps f₀ f₁ < length budgets
-        → session f₀ f₁ s budgets h buffer .ending ≡ some (Answered None)
+module _ (f₀ f₁ s : List ℕ) (h : Handed) (budgets buffer : List ℕ) where
+  abbrev pub calls : Session
+  calls = session f₀ f₁ s budgets h buffer
+
+  pub record ListsAllPlacements : Type 0 where
+    -- the ending is None, and then the maps handed out are all placements; before it they are the first ones
+    pub ends-whole : (e : Ending) → calls .ending ≡ some e → (e ≡ Answered None) × HoldEveryPlacement f₀ f₁ s (calls .maps)
+    pub first-maps : (rest : List Map) × (calls .maps ++ rest ≡ mapsOfRules f₀ f₁ s)
+    -- with budgets of 1 or more the ending comes, after at most as many calls as there may be steps, and one
+    pub steps-within : calls .steps ≤ mostSteps f₀ f₁
+    pub ending-comes : AtLeastOne budgets → mostSteps f₀ f₁ < length budgets → calls .ending ≡ some (Answered None)
+    -- other budgets change neither the maps nor their order nor the ending, nor anything else of what all calls come to
+    pub budgets-alike : (others : List ℕ) (e e′ : Ending) → calls .ending ≡ some e
+        → session f₀ f₁ s others h buffer .ending ≡ some e′ → calls ≡ session f₀ f₁ s others h buffer
     -- the accepted count is the number of pairs accepted; it stays at 4,294,967,295
-    pub accepted-counted : (budgets buffer : List ℕ) → LongEnough f₁ buffer
-        → session f₀ f₁ s budgets h buffer .handed′ .accepted
-        ≡ min (acceptedIn (unlimited (search f₀ f₁ s)) (session f₀ f₁ s budgets h buffer .steps) started) 4294967295
+    pub accepted-counted : calls .handed′ .accepted ≡ min (acceptedIn (unlimited (search f₀ f₁ s)) (calls .steps) started) 4294967295
 
 pub record TheListing : Type 0 where
-  pub all-placements : (f₀ f₁ s : List ℕ) (h : Handed) → Begins f₀ f₁ s h → settingsOf s .limit ≡ none → CountsAgree f₀ f₁ s
-      → ListingFrom f₀ f₁ s h
-  -- if the counts don't agree, there is no map: the first answer is None
-  pub no-map : (f₀ f₁ s : List ℕ) (h : Handed) → Begins f₀ f₁ s h → (CountsAgree f₀ f₁ s → ⊥)
-      → (budget : ℕ) (buffer : List ℕ) → LongEnough f₁ buffer → continueSays f₀ f₁ s h budget buffer ≡ went None 0 h buffer
+  pub all-placements : (f₀ f₁ s : List ℕ) (h : Handed) (budgets buffer : List ℕ) → Begins f₀ f₁ s h → settingsOf s .limit ≡ none
+      → CountsAgree f₀ f₁ s → LongEnough f₁ buffer → ListsAllPlacements f₀ f₁ s h budgets buffer
+  -- if the counts don't agree, there is no map: the first answer is None, and nothing changes
+  pub no-map : (f₀ f₁ s : List ℕ) (h : Handed) (budget : ℕ) (buffer : List ℕ) → Begins f₀ f₁ s h → (CountsAgree f₀ f₁ s → ⊥)
+      → LongEnough f₁ buffer → continueSays f₀ f₁ s h budget buffer ≡ went None 0 h buffer
 
--- 3. With a limit: the first maps of the listing without one, and Limit exactly where that accepts more pairs
+-- 3. With a limit: the first maps of the listing without one, and Limit exactly where that accepts more pairs than the limit
 
 abbrev pub withoutLimit : Settings → Settings
 withoutLimit s =
@@ -131,37 +143,32 @@ withoutLimit s =
       limit = none;
     }
 
-module _ (f₀ f₁ s : List ℕ) where
-  -- sessions with a limit, beside a whole one without
-  pub record CutFrom (whole : Session) (limit : ℕ) (h : Handed) : Type 0 where
-    pub first-maps : (budgets buffer : List ℕ) → LongEnough f₁ buffer
-        → (rest : List Map) × (session f₀ f₁ s budgets h buffer .maps ++ rest ≡ whole .maps)
-    pub ending : (budgets buffer : List ℕ) (e : Ending) → LongEnough f₁ buffer → session f₀ f₁ s budgets h buffer .ending ≡ some e
+module _ (f₀ f₁ s : List ℕ) (h : Handed) (budgets buffer : List ℕ) where
+  -- beside all that calls without a limit came to
+  pub record ListsFirstMaps (limit : ℕ) (whole : Session) : Type 0 where
+    pub first-maps : (rest : List Map) × (calls f₀ f₁ s h budgets buffer .maps ++ rest ≡ whole .maps)
+    pub ending : (e : Ending) → calls f₀ f₁ s h budgets buffer .ending ≡ some e
         → e ≡ Answered (cond (ltb limit (whole .handed′ .accepted)) Limit None)
-    pub whole-at-none : (budgets buffer : List ℕ) → LongEnough f₁ buffer
-        → session f₀ f₁ s budgets h buffer .ending ≡ some (Answered None)
-        → (session f₀ f₁ s budgets h buffer .maps ≡ whole .maps) × (session f₀ f₁ s budgets h buffer .steps ≡ whole .steps)
-    pub one-more-at-limit : (budgets buffer : List ℕ) → LongEnough f₁ buffer
-        → session f₀ f₁ s budgets h buffer .ending ≡ some (Answered Limit)
-        → session f₀ f₁ s budgets h buffer .handed′ .accepted ≡ suc limit
+    pub ending-comes : AtLeastOne budgets → mostSteps f₀ f₁ < length budgets
+        → calls f₀ f₁ s h budgets buffer .ending ≡ some (Answered (cond (ltb limit (whole .handed′ .accepted)) Limit None))
+    pub whole-at-none : calls f₀ f₁ s h budgets buffer .ending ≡ some (Answered None)
+        → (calls f₀ f₁ s h budgets buffer .maps ≡ whole .maps) × (calls f₀ f₁ s h budgets buffer .steps ≡ whole .steps)
+    pub one-more-at-limit : calls f₀ f₁ s h budgets buffer .ending ≡ some (Answered Limit)
+        → calls f₀ f₁ s h budgets buffer .handed′ .accepted ≡ suc limit
     -- the accepted count is the number of pairs accepted
-    pub accepted-counted : (budgets buffer : List ℕ) → LongEnough f₁ buffer
-        → session f₀ f₁ s budgets h buffer .handed′ .accepted
-        ≡ acceptedIn (unlimited (search f₀ f₁ s)) (session f₀ f₁ s budgets h buffer .steps) started
-    pub ending-comes : (budgets buffer : List ℕ) → LongEnough f₁ buffer → AtLeastOne budgets → mostSteps f₀ f₁ < length budgets
-        → session f₀ f₁ s budgets h buffer .ending ≡ some (Answered (cond (ltb limit (whole .handed′ .accepted)) Limit None))
-    pub budgets-alike : (budgets others buffer : List ℕ) (e e′ : Ending) → LongEnough f₁ buffer
-        → session f₀ f₁ s budgets h buffer .ending ≡ some e → session f₀ f₁ s others h buffer .ending ≡ some e′
-        → session f₀ f₁ s budgets h buffer ≡ session f₀ f₁ s others h buffer
+    pub accepted-counted : calls f₀ f₁ s h budgets buffer .handed′ .accepted
+        ≡ acceptedIn (unlimited (search f₀ f₁ s)) (calls f₀ f₁ s h budgets buffer .steps) started
+    pub budgets-alike : (others : List ℕ) (e e′ : Ending) → calls f₀ f₁ s h budgets buffer .ending ≡ some e
+        → calls f₀ f₁ s h others buffer .ending ≡ some e′ → calls f₀ f₁ s h budgets buffer ≡ calls f₀ f₁ s h others buffer
 
 pub record WithALimit : Type 0 where
-  -- the same settings but for the limit are settings too
+  -- s′ is s but for the limit
+  pub first-maps : (f₀ f₁ s s′ : List ℕ) (h : Handed) (budgets buffer : List ℕ) (limit : ℕ) (whole : ListingMade f₀ f₁ s′)
+      → Begins f₀ f₁ s h → settingsOf s .limit ≡ some limit → settingsOf s′ ≡ withoutLimit (settingsOf s)
+      → CountsAgree f₀ f₁ s → LongEnough f₁ buffer → ListsFirstMaps f₀ f₁ s h budgets buffer limit (all-of f₀ f₁ s′ whole)
+  -- and there are such settings
   pub limit-dropped : (f₀ f₁ s : List ℕ) (h : Handed) → Begins f₀ f₁ s h
       → (s′ : List ℕ) × Begins f₀ f₁ s′ h × (settingsOf s′ ≡ withoutLimit (settingsOf s))
-  pub cut-at-the-limit : (f₀ f₁ s s′ : List ℕ) (h h′ : Handed) (limit : ℕ) → Begins f₀ f₁ s h → settingsOf s .limit ≡ some limit
-      → Begins f₀ f₁ s′ h′ → settingsOf s′ ≡ withoutLimit (settingsOf s) → CountsAgree f₀ f₁ s
-      → (budgets buffer : List ℕ) → LongEnough f₁ buffer → session f₀ f₁ s′ budgets h′ buffer .ending ≡ some (Answered None)
-      → CutFrom f₀ f₁ s (session f₀ f₁ s′ budgets h′ buffer) limit h
 
 -- 4. A block on a module, and the module on a board
 
@@ -171,9 +178,7 @@ module _ (f₀ f₁ s : List ℕ) where
     pub not-refused : Begins f₀ f₁ s (handed started)
     pub counts-agree : CountsAgree f₀ f₁ s
     pub by-the-rules : count (shows (nodeCount f₁) φ) (mapsOfRules f₀ f₁ s) ≡ 1
-    pub in-each-session : (budgets buffer : List ℕ) → LongEnough f₁ buffer
-        → session f₀ f₁ s budgets (handed started) buffer .ending ≡ some (Answered None)
-        → count (shows (nodeCount f₁) φ) (session f₀ f₁ s budgets (handed started) buffer .maps) ≡ 1
+    pub by-the-calls : (l : ListingMade f₀ f₁ s) → count (shows (nodeCount f₁) φ) (all-of f₀ f₁ s l .maps) ≡ 1
 
 pub record ChainedPlacements : Type 0 where
   -- two pairs of files that are not refused, and whose counts agree, say the same of the third
@@ -183,10 +188,6 @@ pub record ChainedPlacements : Type 0 where
   -- a map of the block on the module, followed by one of the module on the board, is listed for the block on the board
   pub listed-once : (board module′ block s : List ℕ) (inner outer : Map) → Finds module′ block s inner → Finds board module′ s outer
       → ListedOnce board block s (λ v. image outer (image inner v))
-
--- and whatever a session hands out, Continue finds
-abbrev pub SessionsFind : Type 0
-SessionsFind = (f₀ f₁ s budgets buffer : List ℕ) (h : Handed) → Each (Finds f₀ f₁ s) (session f₀ f₁ s budgets h buffer .maps)
 
 -- 5. Each file on itself; and, under Equal, the reverse of a map for the files exchanged
 
@@ -202,15 +203,11 @@ pub record CheckAgrees : Type 0 where
       → CheckTells f₀ f₁ s map′ yes ↔ ((first (checkLines f₀ f₁ s map′) ≡ none) × Places f₀ f₁ s (λ v. getD map′ v 0))
   pub no-exactly : (f₀ f₁ s map′ : List ℕ)
       → CheckTells f₀ f₁ s map′ no ↔ ((first (checkLines f₀ f₁ s map′) ≡ none) × (Places f₀ f₁ s (λ v. getD map′ v 0) → ⊥))
-  -- where the counts agree, one map of each whole session shows what Check says yes to, and no map what it says no to
-  pub yes-listed : (f₀ f₁ s map′ : List ℕ) (h : Handed) → first (checkLines f₀ f₁ s map′) ≡ none → Begins f₀ f₁ s h → CountsAgree f₀ f₁ s
-      → (budgets buffer : List ℕ) → LongEnough f₁ buffer → session f₀ f₁ s budgets h buffer .ending ≡ some (Answered None)
-      → CheckTells f₀ f₁ s map′ yes
-      ↔ (count (shows (nodeCount f₁) (λ v. getD map′ v 0)) (session f₀ f₁ s budgets h buffer .maps) ≡ 1)
-  pub no-listed : (f₀ f₁ s map′ : List ℕ) (h : Handed) → first (checkLines f₀ f₁ s map′) ≡ none → Begins f₀ f₁ s h → CountsAgree f₀ f₁ s
-      → (budgets buffer : List ℕ) → LongEnough f₁ buffer → session f₀ f₁ s budgets h buffer .ending ≡ some (Answered None)
-      → CheckTells f₀ f₁ s map′ no
-      ↔ (count (shows (nodeCount f₁) (λ v. getD map′ v 0)) (session f₀ f₁ s budgets h buffer .maps) ≡ 0)
+  -- where the counts agree, one map of a listing shows what Check says yes to, and none what it says no to
+  pub yes-listed : (f₀ f₁ s map′ : List ℕ) (l : ListingMade f₀ f₁ s) → first (checkLines f₀ f₁ s map′) ≡ none → CountsAgree f₀ f₁ s
+      → CheckTells f₀ f₁ s map′ yes ↔ (count (shows (nodeCount f₁) (λ v. getD map′ v 0)) (all-of f₀ f₁ s l .maps) ≡ 1)
+  pub no-listed : (f₀ f₁ s map′ : List ℕ) (l : ListingMade f₀ f₁ s) → first (checkLines f₀ f₁ s map′) ≡ none → CountsAgree f₀ f₁ s
+      → CheckTells f₀ f₁ s map′ no ↔ (count (shows (nodeCount f₁) (λ v. getD map′ v 0)) (all-of f₀ f₁ s l .maps) ≡ 0)
 
 -- 7. No second outcome satisfies what a call's contract says of it
 
