@@ -1,4 +1,4 @@
--- Check says yes exactly for a placement, and so exactly for what one map of a whole session shows.
+-- Check says yes exactly for a placement, and so exactly for what one map of a listing shows.
 use Prim.Native.Nat.{ℕ}
 use mathlib.Core.Bool.{Bool, true, cond}
 use mathlib.Core.List.{List, [], _∷_}

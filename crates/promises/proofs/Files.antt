@@ -101,6 +101,7 @@ module _ (f₀ f₁ s : List ℕ) where
   pub begins : (h : Handed) → startSays f₀ f₁ s ≡ begun h → (first (pairLines f₀ f₁ s) ≡ none) × (h ≡ handed started)
   begins h e = by-first (first (pairLines f₀ f₁ s)) refl e
     where
-      by-first : (o : Option Refused) → first (pairLines f₀ f₁ s) ≡ o → orBegun o ≡ begun h → (first (pairLines f₀ f₁ s) ≡ none) × (h ≡ handed started)
+      by-first : (o : Option Refused) → first (pairLines f₀ f₁ s) ≡ o → orBegun o ≡ begun h
+          → (first (pairLines f₀ f₁ s) ≡ none) × (h ≡ handed started)
       by-first none a e = let z : handed started ≡ h = cc e in (a, sym z)
       by-first (some r) a e = let z : _≡_ {A = ℕ} 0 1 = cc in absurd (omega arith)

@@ -2,7 +2,7 @@
 use Prim.Native.Nat.{ℕ, _≤_, min}
 use mathlib.Core.Bool.{cond}
 use mathlib.Core.List.{List, map}
-use mathlib.Core.Option.{none, some}
+use mathlib.Core.Option.{some}
 use mathlib.Core.Path.{_≡_, sym, _∙_, ap, fun-ext}
 use native.Mathlib.Omega.{arith}
 use lib.Dec.{ltb}
@@ -70,9 +70,6 @@ module _ (f₀ f₁ s s′ : List ℕ) (h h′ : Handed) (limit : ℕ) (b : Begi
     (b′ : Begins f₀ f₁ s′ h′) (but : settingsOf s′ ≡ withoutLimit (settingsOf s)) (agreed : CountsAgree f₀ f₁ s) where
   agreed′ : CountsAgree f₀ f₁ s′
   agreed′ = rw but agreed
-
-  free′ : settingsOf s′ .limit ≡ none
-  free′ = rw but
 
   small : limit ≤ 4294967294
   unfolding taskOf

@@ -234,6 +234,7 @@ refusalOf (turnedAway r h buffer) = some r
 module _ (f₀ f₁ s : List ℕ) (h : Handed) where
   -- the next Continue with the same files and settings doesn't refuse with 9, and with a buffer long enough it doesn't refuse at all
   pub record AcceptedNext : Type 0 where
+    pub path-bytes : length (h .path) ≡ 128
     pub not-nine : (budget : ℕ) (buffer : List ℕ) (r : Refused) → refusalOf (continueSays f₀ f₁ s h budget buffer) ≡ some r → r .number ≡ 9 → ⊥
     pub goes : (budget : ℕ) (buffer : List ℕ) → LongEnough f₁ buffer → refusalOf (continueSays f₀ f₁ s h budget buffer) ≡ none
 
