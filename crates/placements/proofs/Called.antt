@@ -17,27 +17,27 @@ use Rattle.placements.proofs.Searched.{nothing, searched}
 use Rattle.placements.proofs.Continued.{Point, Exceeded, Ran, ran-none, ran-limit, ran-found, ran-paused, run-from}
 
 module _ (t : Task) where
-  calls-nil : (r : Record) → calls t [] r ≡ record { maps = []; steps = 0; ending = none; record′ = r }
+  pub calls-nil : (r : Record) → calls t [] r ≡ record { maps = []; steps = 0; ending = none; record′ = r }
   unfolding calls
   calls-nil r = refl
 
   module _ (b : ℕ) (bs : List ℕ) (r : Record) where
-    calls-found : continue t b r .answer ≡ Found
+    pub calls-found : continue t b r .answer ≡ Found
         → calls t (b ∷ bs) r ≡ after-call t (continue t b r .record′ .path ∷ []) (continue t b r .steps) (calls t bs (continue t b r .record′))
     unfolding calls
     calls-found e = rw (e, calls)
 
-    calls-paused : continue t b r .answer ≡ Paused
+    pub calls-paused : continue t b r .answer ≡ Paused
         → calls t (b ∷ bs) r ≡ after-call t [] (continue t b r .steps) (calls t bs (continue t b r .record′))
     unfolding calls
     calls-paused e = rw (e, calls)
 
-    calls-none : continue t b r .answer ≡ None → calls t (b ∷ bs) r ≡ last-call t (continue t b r)
+    pub calls-none : continue t b r .answer ≡ None → calls t (b ∷ bs) r ≡ last-call t (continue t b r)
     unfolding calls
     calls-none e =
         rw (e, calls) (λ i. record { maps = []; steps = continue t b r .steps; ending = some (e i); record′ = continue t b r .record′ })
 
-    calls-limit : continue t b r .answer ≡ Limit → calls t (b ∷ bs) r ≡ last-call t (continue t b r)
+    pub calls-limit : continue t b r .answer ≡ Limit → calls t (b ∷ bs) r ≡ last-call t (continue t b r)
     unfolding calls
     calls-limit e =
         rw (e, calls) (λ i. record { maps = []; steps = continue t b r .steps; ending = some (e i); record′ = continue t b r .record′ })

@@ -136,19 +136,22 @@ agree-back : (greater : Bool) (x y : ℕ) → greater ≡ false → agree greate
 agree-back true x y e h = never true refl e
 agree-back false x y e h = eq-eqb y x (sym (eqb-true x y h))
 
-counts-back : (s : Settings) (g₀ g₁ : Graph) → s .greater ≡ false → graphsAgree s g₀ g₁ ≡ true → graphsAgree s g₁ g₀ ≡ true
+pub counts-back : (s : Settings) (g₀ g₁ : Graph) → s .greater ≡ false → graphsAgree s g₀ g₁ ≡ true → graphsAgree s g₁ g₀ ≡ true
 counts-back s g₀ g₁ e h =
     let here = agree (s .greater) (nodes g₀) (nodes g₁) in
     let there = agree (s .greater) (length (g₀ .edges)) (length (g₁ .edges)) in
     and-intro (agree-back (s .greater) (nodes g₀) (nodes g₁) e (and-left here there h))
     (agree-back (s .greater) (length (g₀ .edges)) (length (g₁ .edges)) e (and-right here there h))
 
+pub counts-own : (s : Settings) (g : Graph) → graphsAgree s g g ≡ true
+counts-own s g = and-intro (agree-own (s .greater) (nodes g)) (agree-own (s .greater) (length (g .edges)))
+
 pub symmetries-listed : (s : Settings) → SymmetriesListed s
 symmetries-listed s =
     record {
       identity-listed = λ g file.
           listing-of-ids s g g (record { accepted₀ = file; accepted₁ = file; same-kind = refl })
-          (and-intro (agree-own (s .greater) (nodes g)) (agree-own (s .greater) (length (g .edges))))
+          (counts-own s g)
           .each-once (λ a. a) (identity s g);
       chain-listed = λ g₀ g₁ g₂ φ ψ f h a b p q.
           listing-of-ids s g₀ g₂ (record { accepted₀ = f .accepted₀; accepted₁ = h .accepted₁; same-kind = h .same-kind ∙ f .same-kind })

@@ -28,7 +28,7 @@ module _ (t : Task) where
   unfolding nextFrom
   next-same ps list x = refl
 
-  pairs-same : (path : List ℕ) → pairsOf (unlimited t) path ≡ pairsOf t path
+  pub pairs-same : (path : List ℕ) → pairsOf (unlimited t) path ≡ pairsOf t path
   pairs-same [] = rw (pairs-nil (unlimited t), pairs-nil t)
   pairs-same (x ∷ path) =
       rw (pairs-cons (unlimited t) x path, pairs-cons t x path, pairs-same path, candidate-same (pairsOf t path))

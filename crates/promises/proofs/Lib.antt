@@ -1,0 +1,12 @@
+pub mod Files
+pub mod Bytes
+pub mod Continued
+pub mod Maps
+pub mod Sessions
+pub mod Records
+pub mod Listing
+pub mod Settings
+pub mod Limits
+pub mod Symmetries
+pub mod Checks
+pub mod Outcomes
