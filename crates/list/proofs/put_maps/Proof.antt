@@ -1,0 +1,72 @@
+-- `list::put_maps` meets its contract. At the loop's head the text ends within the page.
+use Prim.Native.Nat.{ℕ, suc, _+_, _*_, _-_, _≤_, _<_}
+use native.Mathlib.Nat.{mul-le-mul-right}
+use native.Mathlib.Omega.{arith}
+use borrow.Author.Needs.{needs}
+use Rattle.list.proofs.put_maps.Statement.{statement}
+use Rattle.list.proofs.put_maps.Tie as tie
+
+abbrev Inv-loop : tie.InvT-loop
+Inv-loop page₀ from bytes maps pairs at₀ i₀ page at i = (i ≤ maps) × (at ≤ 65536)
+
+abbrev μ-loop : tie.MeasureT-loop
+μ-loop page₀ from bytes maps pairs at₀ i₀ page at i = maps - i
+
+loop-holds : tie.Need-loop-holds Inv-loop μ-loop
+loop-holds c = search needs
+
+make-room-requires : tie.Need-make-room-requires Inv-loop μ-loop
+make-room-requires c κs = search needs
+
+returns : tie.Need-returns Inv-loop μ-loop
+returns c = search needs
+
+mul-put-map : tie.Need-mul-put-map Inv-loop μ-loop
+mul-put-map c = omega arith
+
+-- each map's bytes lie within the buffer
+within : (i maps pairs : ℕ) → i < maps → maps ≤ 128 → pairs ≤ 128 → i * (2 * pairs) + 2 * pairs ≤ 32768
+within i maps pairs less few small =
+    let last : suc i ≤ 128 = omega (arith, less, few) in
+    omega (arith, mul-le-mul-right (2 * pairs) last, small)
+
+mul-put-map-2 : tie.Need-mul-put-map-2 Inv-loop μ-loop
+mul-put-map-2 c =
+    let l = c .before .before .before .before .before .before in
+    let a = l .before .args in
+    omega (arith, within (l .loop .i) (a .maps) (a .pairs) (omega arith) (l .before .pre .1 .0) (l .before .pre .1 .1))
+
+put-map-requires : tie.Need-put-map-requires Inv-loop μ-loop
+put-map-requires c κs =
+    let l = c .before .before .before .before .before .before in
+    let a = l .before .args in
+    (omega arith, within (l .loop .i) (a .maps) (a .pairs) (omega arith) (l .before .pre .1 .0) (l .before .pre .1 .1))
+
+add-i : tie.Need-add-i Inv-loop μ-loop
+add-i c = search needs
+
+loop-less : tie.Need-loop-less Inv-loop μ-loop
+loop-less c = search needs
+
+loop-again : tie.Need-loop-again Inv-loop μ-loop
+loop-again c = search needs
+
+returns-2 : tie.Need-returns-2 Inv-loop μ-loop
+returns-2 c = search needs
+
+pub put-maps-spec : {M : Type 1} → statement M
+put-maps-spec =
+    tie.close
+    (tie.spec
+    Inv-loop
+    μ-loop
+    loop-holds
+    make-room-requires
+    returns
+    mul-put-map
+    mul-put-map-2
+    put-map-requires
+    add-i
+    loop-less
+    loop-again
+    returns-2)
