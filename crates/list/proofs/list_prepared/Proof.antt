@@ -2,13 +2,14 @@
 -- text ends within the page; the measure is the number of turns that are left.
 use Prim.Native.Nat.{_≤_}
 use mathlib.Core.Bool.{true}
-use mathlib.Core.Path.{_≡_, refl, sym, _∙_}
+use mathlib.Core.Path.{_≡_, refl, sym, _∙_, ap}
 use native.Mathlib.Omega.{arith}
 use lib.ListN.{length}
 use borrow.Author.Needs.{needs}
 use Rattle.packed.specs.Graph.{Graph}
 use Rattle.settings.specs.Paper.{settingsIn}
-use Rattle.rules.specs.Task.{countsAgree}
+use Rattle.packed.specs.Settings.{Settings}
+use Rattle.rules.specs.Task.{countsAgree, taskOf}
 use Rattle.rules.specs.Calls.{task}
 use Rattle.step.specs.Steps.{Sizes, Stands, arrays, sizesOf}
 use Rattle.step.proofs.Followed.{begun-follows}
@@ -44,8 +45,15 @@ sizes c =
     (arrays (c .args .n0) (c .args .edges0) (c .args .matrix0 .now) (c .args .words0 .now) (c .args .labels0 .now))
     (arrays (c .args .n1) (c .args .edges1) (c .args .matrix1 .now) (c .args .words1 .now) (c .args .labels1 .now))
 
+settings-are : (s : Settings) (g₀ g₁ : Graph) → task s g₀ g₁ .settings ≡ s
+unfolding taskOf
+settings-are s g₀ g₁ = refl
+
 counts : (c : tie.Start Inv-loop μ-loop) (g₀ g₁ : Graph) → Tables c g₀ g₁ → countsAgree (task (settingsIn (c .args .set)) g₀ g₁) ≡ true
-counts c g₀ g₁ tables = counts-agreed (settingsIn (c .args .set)) g₀ g₁ (tables .searches .tabled) ∙ c .pre .1
+counts c g₀ g₁ tables =
+    let tabled = tables .searches .tabled in
+    let same = tabled .switched .greater-is ∙ ap (λ s. s .greater) (settings-are (settingsIn (c .args .set)) g₀ g₁) in
+    counts-agreed tabled ∙ rw same (c .pre .1)
 
 nodes-most : (c : tie.Start Inv-loop μ-loop) → c .args .n1 ≤ 128
 nodes-most c = c .pre .0 .tables .searches .tabled .prepared₁ .nodes-most
