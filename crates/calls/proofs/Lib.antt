@@ -5,3 +5,4 @@ pub mod Tables
 pub mod Answered
 pub mod Begun
 pub mod Judged
+pub mod Outcomes

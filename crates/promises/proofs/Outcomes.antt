@@ -19,7 +19,7 @@ use Rattle.promises.specs.Promises.{OneOutcome}
 use Rattle.promises.proofs.Checks.{judged-once}
 
 -- the refusal that bears a number
-bearing : ℕ → Refusal
+pub bearing : ℕ → Refusal
 bearing n =
     getD (
     TooShort
@@ -37,7 +37,7 @@ bearing n =
     ∷ []
     ) n TooShort
 
-bears : (r : Refusal) → bearing (numberOf r) ≡ r
+pub bears : (r : Refusal) → bearing (numberOf r) ≡ r
 unfolding bearing
 bears TooShort = refl
 bears TooManyNodes = refl
