@@ -230,7 +230,7 @@ def refusals():
 
 def smallest():
     """The smallest input for each number that docs/FORMAT.md shows."""
-    empty, one, settings = bytes(3), bytes.fromhex("00800000"), bytes(5)
+    empty, one, settings = bytes(3), bytes.fromhex("80800000"), bytes(5)
     for file in ("", "408000", "004010", "000010", "000001", "0000100000"):
         yield started(bytes.fromhex(file), empty, settings)
         yield started(empty, bytes.fromhex(file), settings)
