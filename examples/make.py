@@ -4,7 +4,7 @@
     examples/make.py ORACLE
 
 ORACLE is the Rust oracle (tests/README.md), whose listing is written. A circuit is text, a part on each line with its name and
-the nets of its pins 1 and 2.
+the nets of its pins 1 and 2; `-` is a pin that leaves the circuit.
 """
 import pathlib
 import sys
