@@ -18,14 +18,69 @@ def path(n):
     return [(v, v + 1) for v in range(n - 1)]
 
 
-def grid_path():
-    return plain(False, 128, grid_edges(8, 16)), plain(False, 8, path(8)), Settings()
+def ring(n):
+    return [(v, (v + 1) % n) for v in range(n)]
 
 
-def full_board():
-    random = randoms.Random(5)
-    edges = [(random.randrange(128), random.randrange(128)) for _ in range(1024)]
-    return plain(True, 128, edges), plain(True, 5, [(0, 1), (1, 2), (2, 3), (3, 4), (0, 2)]), Settings()
+def complete(n):
+    return [(a, b) for b in range(n) for a in range(b)]
+
+
+def grid(rows, columns):
+    return plain(False, rows * columns, grid_edges(rows, columns))
+
+
+def random_board(directed, nodes, edges, seed):
+    random = randoms.Random(seed)
+    return plain(directed, nodes, [(random.randrange(nodes), random.randrange(nodes)) for _ in range(edges)])
+
+
+def grid_path(rows=8, columns=16):
+    return grid(rows, columns), plain(False, 8, path(8)), Settings()
+
+
+def full_board(edges=1024):
+    return random_board(True, 128, edges, 5), plain(True, 5, [(0, 1), (1, 2), (2, 3), (3, 4), (0, 2)]), Settings()
+
+
+def dense_board():
+    """Half of the pairs of 46 nodes are joined."""
+    pairs = randoms.Random(46).sample(complete(46), 512)
+    return plain(False, 46, pairs), plain(False, 4, complete(4)), Settings()
+
+
+def ring_on_itself():
+    return plain(False, 128, ring(128)), plain(False, 128, ring(128)), Settings(greater=False)
+
+
+def absent():
+    """A ring of nine is not on a grid, whose rings are all even."""
+    return grid(8, 16), plain(False, 9, ring(9)), Settings()
+
+
+def circuit(parts):
+    """Parts (kind, net, net) first, then nets by their names; labels as in examples/README.md."""
+    nets = sorted({net for _, *pins in parts for net in pins})
+    labels = [kind for kind, *_ in parts] + [4 if net == 0 else 0 for net in nets]
+    edges = [(part, len(parts) + nets.index(net), pin) for part, (_, *pins) in enumerate(parts) for pin, net in enumerate(pins, 1)]
+    return Graph(False, labels, edges)
+
+
+def ladder(sections):
+    """RC sections in a row, each with three resistors in parallel from net to net, and a capacitor to ground."""
+    parts = [(1, s, s + 1) for s in range(1, sections + 1) for _ in range(3)]
+    return circuit(parts + [(2, s + 1, 0) for s in range(1, sections + 1)])
+
+
+def filters(vf2pp, induced):
+    """A filter of three sections in a row of 25."""
+    return ladder(25), ladder(3), Settings(True, vf2pp, induced, True, True)
+
+
+def bridge():
+    """A resistor between every two of fifteen nets, and a bridge of four; a resistor may be turned round."""
+    mesh = circuit([(1, a, b) for a, b in complete(16) if a])
+    return mesh, circuit([(1, a + 1, b + 1) for a, b in ring(4)]), Settings(node_labels=True)
 
 
 def netlist(parts, nets, kinds, seed):
@@ -46,7 +101,23 @@ def netlist_chain():
 
 
 CASES = [
+    # one block on boards with more and more nodes, then edges
+    ("grid 4 x 4, path of 8", lambda: grid_path(4, 4)),
+    ("grid 4 x 8, path of 8", lambda: grid_path(4, 8)),
+    ("grid 8 x 8, path of 8", lambda: grid_path(8, 8)),
     ("grid 8 x 16, path of 8", grid_path),
+    ("directed, 128 nodes, 128 edges", lambda: full_board(128)),
+    ("directed, 128 nodes, 256 edges", lambda: full_board(256)),
+    ("directed, 128 nodes, 512 edges", lambda: full_board(512)),
     ("directed, 128 nodes, 1,024 edges", full_board),
+    # boards and blocks of several kinds
     ("netlist-like, both labels", netlist_chain),
+    ("dense, 46 nodes, K4", dense_board),
+    ("ring of 128 on itself, Equal", ring_on_itself),
+    ("filters, by id", lambda: filters(False, False)),
+    ("filters, by id, induced", lambda: filters(False, True)),
+    ("filters, VF2++", lambda: filters(True, False)),
+    ("filters, VF2++, induced", lambda: filters(True, True)),
+    ("bridge in a mesh of 15 nets", bridge),
+    ("grid 8 x 16, ring of 9: not there", absent),
 ]

@@ -16,7 +16,8 @@ from graphs import FILL, Graph, grid, pack, random_graph
 from search_model import Record, Refused
 from searches import Settings, listing_case, node_count, pack_settings, rust_listings, search_case
 
-CRATE = pathlib.Path(__file__).resolve().parent.parent / "crates" / "relist"
+ROOT = pathlib.Path(__file__).resolve().parent.parent
+CRATE = ROOT / "crates" / "relist"
 
 
 def plain(directed, n, pairs):
@@ -227,6 +228,25 @@ def refusals():
         yield checked(good, block, each, [0, 1])
 
 
+def smallest():
+    """The smallest input for each number that docs/FORMAT.md shows."""
+    empty, one, settings = bytes(3), bytes.fromhex("80800000"), bytes(5)
+    for file in ("", "408000", "004010", "000010", "000001", "0000100000"):
+        yield started(bytes.fromhex(file), empty, settings)
+        yield started(empty, bytes.fromhex(file), settings)
+    yield started(empty, bytes.fromhex("800000"), settings)
+    yield started(empty, empty, b"")
+    yield continued(empty, empty, settings, Record(depth=1), 0, 0)
+    yield continued(one, one, settings, Record(), 0, 0)
+    yield checked(empty, empty, settings, [0])
+
+
+def examples():
+    """The files of each folder of examples/."""
+    for folder in sorted(path.parent for path in ROOT.joinpath("examples").glob("*/g0.bin")):
+        yield tuple(folder.joinpath(name).read_bytes() for name in ("g0.bin", "g1.bin", "settings.bin"))
+
+
 def checks(random):
     for board, block, settings in [*small_graphs(), *((b, k, s) for d in (False, True) for b, k in pieces(d) for s in switches() if random.random() < 0.2)]:
         files = pack(board), pack(block), pack_settings(settings)
@@ -257,15 +277,19 @@ def model_listing(files):
         lines.append(" ".join(["map"] + [f"{a}:{b}" for a, b in zip(found[0::2], found[1::2])]))
 
 
+def listed(oracle, tasks):
+    """The cases of whole listings, with the Rust's answers."""
+    for files, answer in zip(tasks, rust_listings(oracle, tasks)):
+        if model_listing(files) != answer:
+            raise SystemExit(f"the model differs from the Rust: {[part.hex() for part in files]}")
+        yield listing_case(*files), answer + "\n.\n"
+
+
 def main():
     oracle, = sys.argv[1:]
     random = randoms.Random(20261115)
-    cases = []
-    listed = [(pack(board), pack(block), pack_settings(settings)) for board, block, settings in listings(random)]
-    for files, answer in zip(listed, rust_listings(oracle, listed)):
-        if model_listing(files) != answer:
-            raise SystemExit(f"the model differs from the Rust: {[part.hex() for part in files]}")
-        cases.append((listing_case(*files), answer + "\n.\n"))
+    tasks = [(pack(board), pack(block), pack_settings(settings)) for board, block, settings in listings(random)]
+    cases = [*listed(oracle, tasks)]
     for board, block, settings in pausing():
         files = pack(board), pack(block), pack_settings(settings)
         answer, = rust_listings(oracle, [files])
@@ -273,10 +297,11 @@ def main():
         cases += [(listing_case(*files, budget=budget), answer + "\n.\n") for budget in range(1, steps + 1)]
         waits = model.Search(*files).counts_agree()
         cases.append((listing_case(*files, budget=0), "paused 0 0\nsteps 0 -\n.\n" if waits else answer + "\n.\n"))
-    cases += [*refusals(), *records(), *checks(random)]
+    cases += [*refusals(), *records(), *checks(random), *smallest()]
+    cases += listed(oracle, [*examples()])
     CRATE.joinpath("stdin").write_text("".join(case for case, _ in cases))
     CRATE.joinpath("stdout").write_text("".join(answer for _, answer in cases))
-    print(f"{len(listed)} listings, {len(cases)} cases")
+    print(f"{len(tasks)} listings, {len(cases)} cases")
 
 
 if __name__ == "__main__":

@@ -1,0 +1,101 @@
+#!/usr/bin/env python3
+"""Writes the files of the examples: g0.bin, g1.bin, settings.bin and the listing, a folder each.
+
+    examples/make.py ORACLE
+
+ORACLE is the Rust oracle (tests/README.md), whose listing is written. A circuit is text, a part on each line with its name and
+the nets of its pins 1 and 2; `-` is a pin that leaves the circuit.
+"""
+import pathlib
+import sys
+
+HERE = pathlib.Path(__file__).resolve().parent
+sys.path.insert(0, str(HERE.parent / "tests"))
+
+from graphs import Graph, pack  # noqa: E402
+from searches import Settings, pack_settings, rust_listings  # noqa: E402
+
+PARTS = {"R": 1, "C": 2, "L": 3}
+NET = 0
+GROUND = 4
+
+
+def circuit(text):
+    """Parts first, then nets in order of first use; an edge from a part to a net for each pin, labelled 1 or 2; edges rising."""
+    parts = [line.split() for line in text.strip().splitlines()]
+    nets = list(dict.fromkeys(net for _, *pins in parts for net in pins if net != "-"))
+    labels = [PARTS[name[0]] for name, *_ in parts] + [GROUND if net == "0" else NET for net in nets]
+    pins = [(part, net, pin) for part, (_, *ends) in enumerate(parts) for pin, net in enumerate(ends, 1) if net != "-"]
+    return Graph(False, labels, sorted((part, len(parts) + nets.index(net), pin) for part, net, pin in pins))
+
+
+def path(nodes):
+    return Graph(False, [0] * nodes, [(v, v + 1, 0) for v in range(nodes - 1)])
+
+
+def mesh(rows, columns):
+    """A resistor between every two neighbours of a grid of nets; the net in row r and column c is named rc."""
+    along = [f"R {r}{c} {r}{c + 1}" for r in range(1, rows + 1) for c in range(1, columns)]
+    down = [f"R {r}{c} {r + 1}{c}" for r in range(1, rows) for c in range(1, columns + 1)]
+    return "\n".join(along + down)
+
+
+SECTION = """
+R1 in out
+C1 out 0
+"""
+CHAIN = """
+R1 in a
+C1 a 0
+R2 a b
+C2 b 0
+R3 b c
+C3 c 0
+R4 c out
+C4 out 0
+"""
+SUPPLY = """
+R1 in out
+C1 out vdd
+C2 vdd 0
+"""
+BRIDGE = """
+R1 a b
+R2 b c
+R3 c d
+R4 d a
+"""
+LOADED = """
+R1 in out
+C1 out -
+"""
+BYPASS = """
+R1 in out
+C1 out in
+"""
+
+BOTH = Settings(node_labels=True, edge_labels=True)
+
+EXAMPLES = {
+    "worked": (path(3), path(2), Settings()),
+    "filter-chain": (circuit(CHAIN), circuit(SECTION), BOTH),
+    "bridge-in-mesh": (circuit(mesh(3, 3)), circuit(BRIDGE), Settings(node_labels=True)),
+    "looks-present": (circuit(SUPPLY), circuit(SECTION), BOTH),
+    "free-pin": (circuit(BYPASS), circuit(LOADED), BOTH._replace(induced=True)),
+}
+
+
+def main():
+    oracle, = sys.argv[1:]
+    files = [(pack(board), pack(block), pack_settings(settings)) for board, block, settings in EXAMPLES.values()]
+    for name, parts, answer in zip(EXAMPLES, files, rust_listings(oracle, files)):
+        folder = HERE / name
+        folder.mkdir(exist_ok=True)
+        for file, data in zip(("g0.bin", "g1.bin", "settings.bin"), parts):
+            folder.joinpath(file).write_bytes(data)
+        listing, _, _ = answer.rpartition("steps ")
+        folder.joinpath("listing").write_text(listing)
+
+
+if __name__ == "__main__":
+    main()
