@@ -1,5 +1,5 @@
 // Packed graphs (document 01, "Packed graph"): which byte strings are files, and what they hold.
-// Read is the outer call; the calls above read their files with `read_file` and then the edges with `edge_word`.
+// Read is the outer call; the calls above test their files with `read_file`, and `graph::edge_words` reads the edges.
 ghost use mathlib.Core.Path.{_≡_};
 ghost use mathlib.Core.Bool.{not};
 ghost use Prim.Native.Nat.{_+_, _*_, _≤_};
