@@ -24,7 +24,7 @@ use Rattle.graph.proofs.Walk.{Below, leads-below, within-turned, between-turned
 use Rattle.tables.specs.Prepared.{Prepared}
 use Rattle.rules.specs.Task.{Task, agree, Pairs, exchanged, mapped, partner}
 use Rattle.rules.specs.Marks.{follows, firstMark, secondMark, Out, In, inList}
-use Rattle.rules.specs.Acceptable.{covers, isNew, labelledEntry, labelledEntries, labelledWalk, carried, matches, linked, labelled, ahead, sameLabel, feasible, markedNodes, acceptable}
+use Rattle.rules.specs.Acceptable.{covers, isNew, labelledEntry, labelledEntries, labelledWalk, carried, matches, linked, labelled, ahead, sameLabel, eachWay, feasible, markedNodes}
 use Rattle.state.specs.State.{decoded, stamp, marks, second, Agrees, isOpen}
 use Rattle.state.specs.declared.Vf2State.{Vf2State}
 use Rattle.state.proofs.Stamps.{stamp-marked}
@@ -98,6 +98,17 @@ marks-follow-directed : (directed : Bool) (edges : ℕ → ℕ → ℕ) (us : Li
 marks-follow-directed true edges us n = marks-follow edges us n
 marks-follow-directed false edges us n = sym (count-none (from 0 n))
 
+-- the third test may come first
+third-first : (c a b d : Bool) → (c && (a && (b && d))) ≡ (a && (b && (c && d)))
+third-first true a b d = refl
+third-first false true true d = refl
+third-first false true false d = refl
+third-first false false b d = refl
+
+-- one graph's arrays and its state, as the tests see them
+abbrev pub sideOf : ℕ → ℕ → List ℕ → List ℕ → List ℕ → Vf2State → Side
+sideOf n edges matrix words labels s = sideIn n edges matrix words labels (s .mapping) (s .out) (s .ins)
+
 -- a graph with its arrays, and its state after these pairs, as this graph sees them
 record Seen (g : Graph) (directed : Bool) (n edges : ℕ) (matrix words labels : List ℕ) (ps : Pairs) (s : Vf2State) : Type 0 where
   prepared : Prepared g n edges matrix words labels
@@ -106,7 +117,7 @@ record Seen (g : Graph) (directed : Bool) (n edges : ℕ) (matrix words labels :
 
 module _ {g : Graph} {directed : Bool} {n edges : ℕ} {matrix words labels : List ℕ} {ps : Pairs} {s : Vf2State} (this : Seen g directed n edges matrix words labels ps s) where
   abbrev side : Side
-  side = sideIn n edges matrix words labels s
+  side = sideOf n edges matrix words labels s
 
   cells-along : (d : Direction) → along d matrix ≡ between (facing d g)
   cells-along d = facing-cells d g matrix (this .prepared .cells)
@@ -228,6 +239,9 @@ module _ {t : Task} {k : Switches} {n₀ e₀ n₁ e₁ : ℕ} {m₀ w₀ l₀ m
   same-label-agreed =
       rw (seen₀ .prepared .labels-are a less₀, seen₁ .prepared .labels-are b less₁, switched .node-labels-are)
 
+  abbrev each : (Graph → Graph → Bool) → Bool
+  each = eachWay t ps a b
+
   tests-agreed : feasibleIn k (side seen₀) (side seen₁) a b ≡ feasible t ps a b
   unfolding feasibleIn feasible
   tests-agreed =
@@ -241,6 +255,7 @@ module _ {t : Task} {k : Switches} {n₀ e₀ n₁ e₁ : ℕ} {m₀ w₀ l₀ m
         labelled-agreed Incoming,
         switched .directed-is,
       )
+      (third-first (sameLabel t ps a b) (each (linked t ps a b)) (each (ahead t ps a b)) (each (labelled t ps a b)))
 
 -- what is tested of the arrays, and what the rules say of the task
 module _ (t : Task) (k : Switches) (ps : Pairs) (n₀ e₀ n₁ e₁ : ℕ) (m₀ w₀ l₀ m₁ w₁ l₁ : List ℕ) where
@@ -256,7 +271,7 @@ module _ (t : Task) (k : Switches) (ps : Pairs) (n₀ e₀ n₁ e₁ : ℕ) (m�
     pub feasible-agreed : Agrees m₀ (k .directed) n₀ ps s₀ → Agrees m₁ (k .directed) n₁ (exchanged ps) s₁
         → PartnersBelow ps → PartnersBelow (exchanged ps)
         → (a b : ℕ) → a < n₀ → b < n₁
-        → feasibleIn k (sideIn n₀ e₀ m₀ w₀ l₀ s₀) (sideIn n₁ e₁ m₁ w₁ l₁ s₁) a b ≡ feasible t ps a b
+        → feasibleIn k (sideOf n₀ e₀ m₀ w₀ l₀ s₀) (sideOf n₁ e₁ m₁ w₁ l₁ s₁) a b ≡ feasible t ps a b
     feasible-agreed agrees₀ agrees₁ below₀ below₁ a b less₀ less₁ =
         tests-agreed switched (seen-first ps agrees₀) (seen-second (exchanged ps) agrees₁) below₀ below₁ a b less₀ less₁
 
@@ -268,20 +283,3 @@ module _ (t : Task) (k : Switches) (ps : Pairs) (n₀ e₀ n₁ e₁ : ℕ) (m�
         let seen₀ = seen-first ((a, b) ∷ ps) agrees₀ in
         let seen₁ = seen-second (exchanged ((a, b) ∷ ps)) agrees₁ in
         rw (out-counted seen₀, out-counted seen₁, ins-counted seen₀, ins-counted seen₁, switched .greater-is)
-
-  -- together they say whether the pair is acceptable
-  pub acceptable-agreed : (s₀ s₁ q₀ q₁ : Vf2State) → Switched t k
-      → Prepared (t .graph₀) n₀ e₀ m₀ w₀ l₀ → Prepared (t .graph₁) n₁ e₁ m₁ w₁ l₁
-      → Agrees m₀ (k .directed) n₀ ps s₀ → Agrees m₁ (k .directed) n₁ (exchanged ps) s₁
-      → PartnersBelow ps → PartnersBelow (exchanged ps)
-      → (a b : ℕ) → a < n₀ → b < n₁
-      → Agrees m₀ (k .directed) n₀ ((a, b) ∷ ps) q₀ → Agrees m₁ (k .directed) n₁ (exchanged ((a, b) ∷ ps)) q₁
-      → (feasibleIn k (sideIn n₀ e₀ m₀ w₀ l₀ s₀) (sideIn n₁ e₁ m₁ w₁ l₁ s₁) a b
-      && (agree (k .greater) (q₀ .«out_size») (q₁ .«out_size») && agree (k .greater) (q₀ .«ins_size») (q₁ .«ins_size»)))
-      ≡ acceptable t ps a b
-  unfolding acceptable
-  acceptable-agreed s₀ s₁ q₀ q₁ switched prepared₀ prepared₁ agrees₀ agrees₁ below₀ below₁ a b less₀ less₁ after₀ after₁ =
-      rw (
-        feasible-agreed s₀ s₁ switched prepared₀ prepared₁ agrees₀ agrees₁ below₀ below₁ a b less₀ less₁,
-        sizes-agreed q₀ q₁ switched prepared₀ prepared₁ a b after₀ after₁,
-      )
