@@ -3,8 +3,7 @@
 
     examples/make.py ORACLE
 
-ORACLE is the Rust oracle (tests/README.md), whose listing is written. A circuit is text, a part on each line with its name and
-the nets of its pins 1 and 2; `-` is a pin that leaves the circuit.
+ORACLE is the Rust oracle (tests/README.md), whose listing is written. A circuit is text as pack.py reads it.
 """
 import pathlib
 import sys
@@ -13,20 +12,13 @@ HERE = pathlib.Path(__file__).resolve().parent
 sys.path.insert(0, str(HERE.parent / "tests"))
 
 from graphs import Graph, pack  # noqa: E402
+from pack import BOTH, circuit  # noqa: E402
 from searches import Settings, pack_settings, rust_listings  # noqa: E402
 
-PARTS = {"R": 1, "C": 2, "L": 3}
-NET = 0
-GROUND = 4
 
-
-def circuit(text):
-    """Parts first, then nets in order of first use; an edge from a part to a net for each pin, labelled 1 or 2; edges rising."""
-    parts = [line.split() for line in text.strip().splitlines()]
-    nets = list(dict.fromkeys(net for _, *pins in parts for net in pins if net != "-"))
-    labels = [PARTS[name[0]] for name, *_ in parts] + [GROUND if net == "0" else NET for net in nets]
-    pins = [(part, net, pin) for part, (_, *ends) in enumerate(parts) for pin, net in enumerate(ends, 1) if net != "-"]
-    return Graph(False, labels, sorted((part, len(parts) + nets.index(net), pin) for part, net, pin in pins))
+def drawn(text):
+    graph, _ = circuit(text)
+    return graph
 
 
 def path(nodes):
@@ -74,14 +66,12 @@ R1 in out
 C1 out in
 """
 
-BOTH = Settings(node_labels=True, edge_labels=True)
-
 EXAMPLES = {
     "worked": (path(3), path(2), Settings()),
-    "filter-chain": (circuit(CHAIN), circuit(SECTION), BOTH),
-    "bridge-in-mesh": (circuit(mesh(3, 3)), circuit(BRIDGE), Settings(node_labels=True)),
-    "looks-present": (circuit(SUPPLY), circuit(SECTION), BOTH),
-    "free-pin": (circuit(BYPASS), circuit(LOADED), BOTH._replace(induced=True)),
+    "filter-chain": (drawn(CHAIN), drawn(SECTION), BOTH),
+    "bridge-in-mesh": (drawn(mesh(3, 3)), drawn(BRIDGE), Settings(node_labels=True)),
+    "looks-present": (drawn(SUPPLY), drawn(SECTION), BOTH),
+    "free-pin": (drawn(BYPASS), drawn(LOADED), BOTH._replace(induced=True)),
 }
 
 

@@ -229,13 +229,14 @@ def refusals():
 
 
 def smallest():
-    """The smallest input for each number that docs/FORMAT.md shows."""
+    """The smallest input for each number, and the refused settings, that docs/FORMAT.md shows."""
     empty, one, settings = bytes(3), bytes.fromhex("80800000"), bytes(5)
     for file in ("", "408000", "004010", "000010", "000001", "0000100000"):
         yield started(bytes.fromhex(file), empty, settings)
         yield started(empty, bytes.fromhex(file), settings)
     yield started(empty, bytes.fromhex("800000"), settings)
-    yield started(empty, empty, b"")
+    for refused in ("", "8000000000", "c000000000", "4100000000", "42ffffffff", "4000000001"):
+        yield started(empty, empty, bytes.fromhex(refused))
     yield continued(empty, empty, settings, Record(depth=1), 0, 0)
     yield continued(one, one, settings, Record(), 0, 0)
     yield checked(empty, empty, settings, [0])
