@@ -5,7 +5,6 @@ use calls::CheckAnswer;
 use calls::ContinueAnswer;
 use calls::StartAnswer;
 use libc::STDIN_FILENO;
-use libc::STDOUT_FILENO;
 use packed::Refusal;
 use records::Record;
 use step::Top;
@@ -59,95 +58,62 @@ fn call_of(letter: u8) -> Call {
     }
 }
 
-// A line is put together from its start; each of these answers its length so far. A field is a space and a number.
-fn put_word(line: &mut [u8; 4096], at: usize, word: &[u8]) -> usize
-    requires { ⌜ at ≤ 4096 ⌝ }
-    ensures { λ r. ⌜ r ≤ 4096 ⌝ }
+// A line is put together from its start; each of these answers its length so far.
+fn put_named(line: &mut [u8], name: &[u8], n: usize) -> usize
+    ensures { λ r. ⌜ r ≤ length (now (line .entry)) ⌝ }
 {
-    text::put_bytes(line, at, word)
+    let at = text::put_bytes(line, 0, name);
+    text::put_field(line, at, n as u64)
 }
 
-fn put_number(line: &mut [u8; 4096], at: usize, n: usize) -> usize
-    requires { ⌜ at ≤ 4096 ⌝ }
-    ensures { λ r. ⌜ r ≤ 4096 ⌝ }
-{
-    text::put_number(line, at, n as u64)
-}
-
-fn put_field(line: &mut [u8; 4096], at: usize, n: usize) -> usize
-    requires { ⌜ at ≤ 4096 ⌝ }
-    ensures { λ r. ⌜ r ≤ 4096 ⌝ }
-{
-    let next = put_word(line, at, b" ");
-    put_number(line, next, n)
-}
-
-fn put_fields(line: &mut [u8; 4096], at: usize, bytes: &[u8]) -> usize
-    requires { ⌜ at ≤ 4096 ⌝ }
-    ensures { λ r. ⌜ r ≤ 4096 ⌝ }
-{
-    let mut end = at;
-    for i in 0..bytes.len() {
-        end = put_field(line, end, bytes[i] as usize);
-    }
-    end
-}
-
-fn put_named(line: &mut [u8; 4096], name: &[u8], n: usize) -> usize
-    ensures { λ r. ⌜ r ≤ 4096 ⌝ }
-{
-    let at = put_word(line, 0, name);
-    put_field(line, at, n)
-}
-
-fn put_refusal(line: &mut [u8; 4096], refusal: Refusal, file: usize) -> usize
-    ensures { λ r. ⌜ r ≤ 4096 ⌝ }
+fn put_refusal(line: &mut [u8], refusal: Refusal, file: usize) -> usize
+    ensures { λ r. ⌜ r ≤ length (now (line .entry)) ⌝ }
 {
     let at = put_named(line, b"refused", packed::number_of(refusal));
-    put_field(line, at, file)
+    text::put_field(line, at, file as u64)
 }
 
-fn put_inner(line: &mut [u8; 4096], at: usize, position: usize) -> usize
-    requires { ⌜ at ≤ 4096 ⌝ }
-    ensures { λ r. ⌜ r ≤ 4096 ⌝ }
+fn put_inner(line: &mut [u8], at: usize, position: usize) -> usize
+    requires { ⌜ at ≤ length (now line) ⌝ }
+    ensures { λ r. ⌜ r ≤ length (now (line .entry)) ⌝ }
 {
-    let next = put_word(line, at, b" inner");
-    put_field(line, next, position)
+    let next = text::put_bytes(line, at, b" inner");
+    text::put_field(line, next, position as u64)
 }
 
-fn put_top(line: &mut [u8; 4096], at: usize, top: Top) -> usize
-    requires { ⌜ at ≤ 4096 ⌝ }
-    ensures { λ r. ⌜ r ≤ 4096 ⌝ }
+fn put_top(line: &mut [u8], at: usize, top: Top) -> usize
+    requires { ⌜ at ≤ length (now line) ⌝ }
+    ensures { λ r. ⌜ r ≤ length (now (line .entry)) ⌝ }
 {
     match top {
-        Top::Outer => put_word(line, at, b" outer"),
+        Top::Outer => text::put_bytes(line, at, b" outer"),
         Top::Inner(position) => put_inner(line, at, position),
-        Top::Unwind => put_word(line, at, b" unwind"),
+        Top::Unwind => text::put_bytes(line, at, b" unwind"),
     }
 }
 
-fn put_record(line: &mut [u8; 4096], at: usize, after: Record) -> usize
-    requires { ⌜ at ≤ 4096 ⌝ }
-    ensures { λ r. ⌜ r ≤ 4096 ⌝ }
+fn put_record(line: &mut [u8], at: usize, after: Record) -> usize
+    requires { ⌜ at ≤ length (now line) ⌝ }
+    ensures { λ r. ⌜ r ≤ length (now (line .entry)) ⌝ }
 {
-    let named = put_word(line, at, b" record");
-    let deep = put_field(line, named, after.depth);
+    let named = text::put_bytes(line, at, b" record");
+    let deep = text::put_field(line, named, after.depth as u64);
     let top = after.top;
     let topped = put_top(line, deep, top);
-    let counted = put_field(line, topped, after.accepted as usize);
+    let counted = text::put_field(line, topped, after.accepted as u64);
     let path = after.path;
-    put_fields(line, counted, &path)
+    text::put_fields(line, counted, &path)
 }
 
-fn put_begun(line: &mut [u8; 4096], fresh: Record) -> usize
-    ensures { λ r. ⌜ r ≤ 4096 ⌝ }
+fn put_begun(line: &mut [u8], fresh: Record) -> usize
+    ensures { λ r. ⌜ r ≤ length (now (line .entry)) ⌝ }
 {
-    let at = put_word(line, 0, b"started");
+    let at = text::put_bytes(line, 0, b"started");
     put_record(line, at, fresh)
 }
 
-fn put_started(line: &mut [u8; 4096], answer: StartAnswer, fresh: Record) -> usize
-    ensures { λ r. ⌜ r ≤ 4096 ⌝ }
+fn put_started(line: &mut [u8], answer: StartAnswer, fresh: Record) -> usize
+    ensures { λ r. ⌜ r ≤ length (now (line .entry)) ⌝ }
 {
     match answer {
         StartAnswer::Begun => put_begun(line, fresh),
@@ -155,8 +121,8 @@ fn put_started(line: &mut [u8; 4096], answer: StartAnswer, fresh: Record) -> usi
     }
 }
 
-fn put_continued(line: &mut [u8; 4096], answer: ContinueAnswer) -> usize
-    ensures { λ r. ⌜ r ≤ 4096 ⌝ }
+fn put_continued(line: &mut [u8], answer: ContinueAnswer) -> usize
+    ensures { λ r. ⌜ r ≤ length (now (line .entry)) ⌝ }
 {
     match answer {
         ContinueAnswer::Found { steps } => put_named(line, b"found", steps),
@@ -167,88 +133,55 @@ fn put_continued(line: &mut [u8; 4096], answer: ContinueAnswer) -> usize
     }
 }
 
-fn put_checked(line: &mut [u8; 4096], answer: CheckAnswer) -> usize
-    ensures { λ r. ⌜ r ≤ 4096 ⌝ }
+fn put_checked(line: &mut [u8], answer: CheckAnswer) -> usize
+    ensures { λ r. ⌜ r ≤ length (now (line .entry)) ⌝ }
 {
     match answer {
-        CheckAnswer::Yes => put_word(line, 0, b"yes"),
-        CheckAnswer::No => put_word(line, 0, b"no"),
+        CheckAnswer::Yes => text::put_bytes(line, 0, b"yes"),
+        CheckAnswer::No => text::put_bytes(line, 0, b"no"),
         CheckAnswer::Refused { refusal, file } => put_refusal(line, refusal, file),
     }
 }
 
-// A pair of a map, the graph-0 node and the graph-1 node.
-fn put_pair(line: &mut [u8; 4096], at: usize, a: u8, b: u8) -> usize
-    requires { ⌜ at ≤ 4096 ⌝ }
-    ensures { λ r. ⌜ r ≤ 4096 ⌝ }
-{
-    let first = put_field(line, at, a as usize);
-    let next = put_word(line, first, b":");
-    put_number(line, next, b as usize)
-}
-
-fn put_map(line: &mut [u8; 4096], map: &[u8]) -> usize
-    ensures { λ r. ⌜ r ≤ 4096 ⌝ }
-{
-    let mut end = put_word(line, 0, b"map");
-    for i in 0..map.len() / 2 {
-        end = put_pair(line, end, map[2 * i], map[2 * i + 1]);
-    }
-    end
-}
-
-fn put_first(line: &mut [u8; 4096], at: usize, tally: Tally) -> usize
-    requires { ⌜ at ≤ 4096 ⌝ }
-    ensures { λ r. ⌜ r ≤ 4096 ⌝ }
+fn put_first(line: &mut [u8], at: usize, tally: Tally) -> usize
+    requires { ⌜ at ≤ length (now line) ⌝ }
+    ensures { λ r. ⌜ r ≤ length (now (line .entry)) ⌝ }
 {
     if tally.maps == 0 {
-        put_word(line, at, b" -")
+        text::put_bytes(line, at, b" -")
     } else {
-        put_field(line, at, tally.first)
+        text::put_field(line, at, tally.first as u64)
     }
 }
 
 // The last line of a listing, a line of its steps, and the line that ends it.
-fn put_end(line: &mut [u8; 4096], ending: &[u8], tally: Tally, accepted: u32) -> usize
-    ensures { λ r. ⌜ r ≤ 4096 ⌝ }
+fn put_end(line: &mut [u8], ending: &[u8], tally: Tally, accepted: u32) -> usize
+    ensures { λ r. ⌜ r ≤ length (now (line .entry)) ⌝ }
 {
     let mapped = put_named(line, ending, tally.maps);
-    let counted = put_field(line, mapped, accepted as usize);
-    let named = put_word(line, counted, b"\nsteps");
-    let stepped = put_field(line, named, tally.steps);
+    let counted = text::put_field(line, mapped, accepted as u64);
+    let named = text::put_bytes(line, counted, b"\nsteps");
+    let stepped = text::put_field(line, named, tally.steps as u64);
     let all = put_first(line, stepped, tally);
-    put_word(line, all, b"\n.")
-}
-
-// Ends the line and writes it. Was it written?
-fn print(mut line: [u8; 4096], at: usize) -> bool
-    requires { ⌜ at ≤ 4096 ⌝ }
-{
-    let end = text::put_byte(&mut line, at, b'\n');
-    io::write_all(STDOUT_FILENO, &line[0..end])
+    text::put_bytes(line, all, b"\n.")
 }
 
 fn print_map(map: &[u8]) -> bool {
     let mut line = [0u8; 4096];
-    let at = put_map(&mut line, map);
-    print(line, at)
+    let at = text::put_map(&mut line, 0, map);
+    text::write_line(&mut line, at)
 }
 
 fn print_end(ending: &[u8], tally: Tally, accepted: u32) -> bool {
     let mut line = [0u8; 4096];
     let at = put_end(&mut line, ending, tally, accepted);
-    print(line, at)
+    text::write_line(&mut line, at)
 }
 
 fn print_refusal(refusal: Refusal, file: usize) -> bool {
     let mut line = [0u8; 4096];
     let at = put_refusal(&mut line, refusal, file);
-    print(line, at)
-}
-
-fn bad_case() -> bool {
-    io::write_all(STDOUT_FILENO, b"bad case\n");
-    false
+    text::write_line(&mut line, at)
 }
 
 fn answer_start(file0: &[u8], file1: &[u8], settings: &[u8]) -> bool {
@@ -257,7 +190,7 @@ fn answer_start(file0: &[u8], file1: &[u8], settings: &[u8]) -> bool {
     let fresh = started.fresh;
     let mut line = [0u8; 4096];
     let at = put_started(&mut line, answer, fresh);
-    print(line, at)
+    text::write_line(&mut line, at)
 }
 
 // Two bytes as a number, the high one first.
@@ -311,7 +244,7 @@ fn answer_continue(
     buffer: &mut [u8],
 ) -> bool {
     if given.len() != RECORD {
-        return bad_case();
+        return text::bad_case();
     }
     let continued = calls::continue_search(
         file0,
@@ -326,15 +259,15 @@ fn answer_continue(
     let mut line = [0u8; 4096];
     let at = put_continued(&mut line, answer);
     let recorded = put_record(&mut line, at, after);
-    let named = put_word(&mut line, recorded, b" buffer");
-    let end = put_fields(&mut line, named, buffer);
-    print(line, end)
+    let named = text::put_bytes(&mut line, recorded, b" buffer");
+    let end = text::put_fields(&mut line, named, buffer);
+    text::write_line(&mut line, end)
 }
 
 fn answer_check(file0: &[u8], file1: &[u8], settings: &[u8], map: &[u8]) -> bool {
     let mut line = [0u8; 4096];
     let at = put_checked(&mut line, calls::check(file0, file1, settings, map));
-    print(line, at)
+    text::write_line(&mut line, at)
 }
 
 // Nothing bounds a listing's length, so its numbers are sums that wrap.
@@ -459,14 +392,8 @@ fn answer(case: Case, bytes: &[u8; 5872]) -> bool
         Call::Continue => answer_continue(file0, file1, settings, given, budget, buffer),
         Call::Check => answer_check(file0, file1, settings, given),
         Call::List => answer_list(file0, file1, settings, budget, buffer),
-        Call::Unknown => bad_case(),
+        Call::Unknown => text::bad_case(),
     }
-}
-
-fn decode(line: &[u8; 11745], bytes: &mut [u8; 5872], count: usize) -> bool
-    requires { ⌜ count ≤ 5872 ⌝ }
-{
-    text::decode(line, bytes, count)
 }
 
 // Reads the bytes of a case and answers the case.
@@ -477,39 +404,31 @@ fn read_bytes(case: Case) -> bool
 {
     let count = case.length0 + case.length1 + case.settings + case.given;
     let mut line = [0u8; 11745];
-    let end = 2 * count;
-    let got = io::read_full(STDIN_FILENO, &mut line[0..end + 1]);
-    if got != end + 1 {
-        return bad_case();
-    }
-    if line[end] != b'\n' {
-        return bad_case();
-    }
     let mut bytes = [0u8; 5872];
-    if !decode(&line, &mut bytes, count) {
-        return bad_case();
+    if !text::read_decoded(&mut line, &mut bytes, count) {
+        return text::bad_case();
     }
     answer(case, &bytes)
 }
 
 fn run(case: Case) -> bool {
     if MAX_FILE < case.length0 {
-        return bad_case();
+        return text::bad_case();
     }
     if MAX_FILE < case.length1 {
-        return bad_case();
+        return text::bad_case();
     }
     if MAX_SETTINGS < case.settings {
-        return bad_case();
+        return text::bad_case();
     }
     if MAX_GIVEN < case.given {
-        return bad_case();
+        return text::bad_case();
     }
     if MAX_BUDGET < case.budget {
-        return bad_case();
+        return text::bad_case();
     }
     if MAX_BUFFER < case.buffer {
-        return bad_case();
+        return text::bad_case();
     }
     read_bytes(case)
 }
@@ -532,10 +451,10 @@ fn next_case() -> bool {
         return false;
     }
     if got < 42 {
-        return bad_case();
+        return text::bad_case();
     }
     if header[5] != b' ' {
-        return bad_case();
+        return text::bad_case();
     }
     run(Case {
         call: call_of(header[0]),

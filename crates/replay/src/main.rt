@@ -1,7 +1,7 @@
 // Answers cases of the outer calls Read and Order, one line for each; tests/README.md has their form.
 ghost use Prim.Native.Nat.{_≤_};
+ghost use lib.ListN.{length};
 use libc::STDIN_FILENO;
-use libc::STDOUT_FILENO;
 use order::OrderAnswer;
 use packed::ReadAnswer;
 use packed::Refusal;
@@ -45,45 +45,26 @@ fn call_of(header: &[u8; 16]) -> Call {
     Call::Unknown
 }
 
-// A line is put together from its start; each of these answers its length so far. A field is a space and a number.
-fn put_field(line: &mut [u8; 2048], at: usize, n: usize) -> usize
-    requires { ⌜ at ≤ 2048 ⌝ }
-    ensures { λ r. ⌜ r ≤ 2048 ⌝ }
-{
-    let next = text::put_byte(line, at, b' ');
-    text::put_number(line, next, n as u64)
-}
-
-fn put_fields(line: &mut [u8; 2048], at: usize, bytes: &[u8]) -> usize
-    requires { ⌜ at ≤ 2048 ⌝ }
-    ensures { λ r. ⌜ r ≤ 2048 ⌝ }
-{
-    let mut end = at;
-    for i in 0..bytes.len() {
-        end = put_field(line, end, bytes[i] as usize);
-    }
-    end
-}
-
-fn put_refusal(line: &mut [u8; 2048], refusal: Refusal, file: usize) -> usize
-    ensures { λ r. ⌜ r ≤ 2048 ⌝ }
+// A line is put together from its start; each of these answers its length so far.
+fn put_refusal(line: &mut [u8], refusal: Refusal, file: usize) -> usize
+    ensures { λ r. ⌜ r ≤ length (now (line .entry)) ⌝ }
 {
     let named = text::put_bytes(line, 0, b"refused");
-    let numbered = put_field(line, named, packed::number_of(refusal));
-    put_field(line, numbered, file)
+    let numbered = text::put_field(line, named, packed::number_of(refusal) as u64);
+    text::put_field(line, numbered, file as u64)
 }
 
-fn put_graph(line: &mut [u8; 2048], directed: bool, nodes: usize, edges: usize) -> usize
-    ensures { λ r. ⌜ r ≤ 2048 ⌝ }
+fn put_graph(line: &mut [u8], directed: bool, nodes: usize, edges: usize) -> usize
+    ensures { λ r. ⌜ r ≤ length (now (line .entry)) ⌝ }
 {
     let named = text::put_bytes(line, 0, b"graph");
-    let kind = put_field(line, named, directed as usize);
-    let counted = put_field(line, kind, nodes);
-    put_field(line, counted, edges)
+    let kind = text::put_field(line, named, directed as u64);
+    let counted = text::put_field(line, kind, nodes as u64);
+    text::put_field(line, counted, edges as u64)
 }
 
-fn put_read(line: &mut [u8; 2048], answer: ReadAnswer) -> usize
-    ensures { λ r. ⌜ r ≤ 2048 ⌝ }
+fn put_read(line: &mut [u8], answer: ReadAnswer) -> usize
+    ensures { λ r. ⌜ r ≤ length (now (line .entry)) ⌝ }
 {
     match answer {
         ReadAnswer::Graph {
@@ -95,15 +76,15 @@ fn put_read(line: &mut [u8; 2048], answer: ReadAnswer) -> usize
     }
 }
 
-fn put_ordered(line: &mut [u8; 2048], nodes: usize) -> usize
-    ensures { λ r. ⌜ r ≤ 2048 ⌝ }
+fn put_ordered(line: &mut [u8], nodes: usize) -> usize
+    ensures { λ r. ⌜ r ≤ length (now (line .entry)) ⌝ }
 {
     let named = text::put_bytes(line, 0, b"ordered");
-    put_field(line, named, nodes)
+    text::put_field(line, named, nodes as u64)
 }
 
-fn put_order(line: &mut [u8; 2048], answer: OrderAnswer) -> usize
-    ensures { λ r. ⌜ r ≤ 2048 ⌝ }
+fn put_order(line: &mut [u8], answer: OrderAnswer) -> usize
+    ensures { λ r. ⌜ r ≤ length (now (line .entry)) ⌝ }
 {
     match answer {
         OrderAnswer::Ordered { nodes } => put_ordered(line, nodes),
@@ -111,37 +92,24 @@ fn put_order(line: &mut [u8; 2048], answer: OrderAnswer) -> usize
     }
 }
 
-// Ends the line and writes it. Was it written?
-fn print(mut line: [u8; 2048], at: usize) -> bool
-    requires { ⌜ at ≤ 2048 ⌝ }
-{
-    let end = text::put_byte(&mut line, at, b'\n');
-    io::write_all(STDOUT_FILENO, &line[0..end])
-}
-
 fn answer_read(file: &[u8]) -> bool {
     let mut line = [0u8; 2048];
     let at = put_read(&mut line, packed::read(file));
-    print(line, at)
+    text::write_line(&mut line, at)
 }
 
 fn answer_order(file: &[u8], plus_plus: bool, buffer: &mut [u8]) -> bool {
     let mut line = [0u8; 2048];
     let at = put_order(&mut line, order::order(file, plus_plus, buffer));
-    let whole = put_fields(&mut line, at, buffer);
-    print(line, whole)
-}
-
-fn bad_case() -> bool {
-    io::write_all(STDOUT_FILENO, b"bad case\n");
-    false
+    let whole = text::put_fields(&mut line, at, buffer);
+    text::write_line(&mut line, whole)
 }
 
 fn answer(call: Call, buffer_length: usize, bytes: [u8; 2800], length: usize) -> bool
     requires { ⌜ length ≤ 2800 ⌝ }
 {
     if MAX_BUFFER < buffer_length {
-        return bad_case();
+        return text::bad_case();
     }
     let file = &bytes[0..length];
     let mut space = [255u8; 256];
@@ -150,33 +118,19 @@ fn answer(call: Call, buffer_length: usize, bytes: [u8; 2800], length: usize) ->
         Call::Read => answer_read(file),
         Call::ById => answer_order(file, false, buffer),
         Call::PlusPlus => answer_order(file, true, buffer),
-        Call::Unknown => bad_case(),
+        Call::Unknown => text::bad_case(),
     }
-}
-
-fn decode(line: &[u8; 5601], file: &mut [u8; 2800], length: usize) -> bool
-    requires { ⌜ length ≤ 2800 ⌝ }
-{
-    text::decode(line, file, length)
 }
 
 // Reads the file of a case and answers the case.
 fn run(call: Call, buffer_length: usize, length: usize) -> bool {
     if MAX_FILE < length {
-        return bad_case();
+        return text::bad_case();
     }
     let mut line = [0u8; 5601];
-    let end = 2 * length;
-    let got = io::read_full(STDIN_FILENO, &mut line[0..end + 1]);
-    if got != end + 1 {
-        return bad_case();
-    }
-    if line[end] != b'\n' {
-        return bad_case();
-    }
     let mut file = [0u8; 2800];
-    if !decode(&line, &mut file, length) {
-        return bad_case();
+    if !text::read_decoded(&mut line, &mut file, length) {
+        return text::bad_case();
     }
     answer(call, buffer_length, file, length)
 }
@@ -189,7 +143,7 @@ fn next_case() -> bool {
         return false;
     }
     if got < 16 {
-        return bad_case();
+        return text::bad_case();
     }
     let call = call_of(&header);
     let buffer_length = text::number(&header, 6, 4);

@@ -1,24 +1,50 @@
 -- Text in a buffer, and what digits in it spell.
-use Prim.Native.Nat.{ℕ, zero, suc, _+_, _*_, _-_, _<_, min}
+use Prim.Native.Nat.{ℕ, zero, suc, _+_, _*_, _-_, _/_, _^_, _<_, min}
 use mathlib.Core.Bool.{cond, _&&_}
-use mathlib.Core.List.{List, map}
+use mathlib.Core.List.{List, _∷_, _++_, map, flatMap}
 use mathlib.Core.Path.{_≡_}
 use lib.Dec.{leb, ltb}
 use lib.ListN.{length, getD}
 use lib.Seq.{paste}
-use Rattle.io.specs.Digits.{digits, Fewest}
-use Rattle.lists.specs.Lists.{from, any}
+use Rattle.io.specs.Digits.{digits}
+use Rattle.lists.specs.Lists.{from, any, count}
 
 -- the buffer with the bytes from a place on, as many as there is room for
 abbrev pub put : List ℕ → ℕ → List ℕ → List ℕ
 put text at bytes = paste text at bytes (min (length bytes) (length text - at))
 
--- a number's decimal digits, the fewest that hold it, put into the buffer; the text then goes to `end`
-pub record NumberPut (text : List ℕ) (at n : ℕ) (after : List ℕ) (end : ℕ) : Type 0 where
-  pub places : ℕ
-  pub fewest : Fewest 10 1 n places
-  pub holds : after ≡ put text at (digits 10 places n)
-  pub ends : end ≡ min (at + places) (length text)
+-- the bytes are put into the buffer from a place on; the text then goes to `end`
+pub record Puts (text : List ℕ) (at : ℕ) (bytes after : List ℕ) (end : ℕ) : Type 0 where
+  pub holds : after ≡ put text at bytes
+  pub ends : end ≡ min (at + length bytes) (length text)
+
+-- how many decimal digits a number has
+unfoldable pub places : ℕ → ℕ
+places n = suc (count (λ k. leb (10 ^ k) n) (from 1 n))
+
+-- a number's decimal digits
+unfoldable pub decimal : ℕ → List ℕ
+decimal n = digits 10 (places n) n
+
+-- a blank and a number
+abbrev pub field : ℕ → List ℕ
+field n = 32 ∷ decimal n
+
+-- a field for each number
+abbrev pub fields : List ℕ → List ℕ
+fields numbers = flatMap field numbers
+
+-- a blank and two numbers with a colon between them
+abbrev pub pair : ℕ → ℕ → List ℕ
+pair a b = field a ++ 58 ∷ decimal b
+
+-- the i-th pair of a map's bytes
+abbrev pub pairAt : List ℕ → ℕ → List ℕ
+pairAt bytes i = pair (getD bytes (2 * i) 0) (getD bytes (2 * i + 1) 0)
+
+-- `map` and the pairs
+abbrev pub mapText : List ℕ → List ℕ
+mapText bytes = 109 ∷ 97 ∷ 112 ∷ flatMap (pairAt bytes) (from 0 (length bytes / 2))
 
 -- the value of a hexadecimal digit, `0` to `9` or `a` to `f`; 16 of any other character
 unfoldable pub valueOf : ℕ → ℕ

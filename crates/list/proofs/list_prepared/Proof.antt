@@ -21,15 +21,15 @@ use Rattle.list.proofs.list_prepared.Statement.{statement}
 use Rattle.list.proofs.list_prepared.Tie as tie
 
 abbrev Inv-loop : tie.InvT-loop
-Inv-loop order0 matrix0 words0 labels0 n0 edges0 order1 matrix1 words1 labels1 n1 edges1 k set page₀ bytes₀ p₀ t₀ count₀ maps₀ at₀ turns₀ t26 t27 page bytes p t count maps at turns =
-    (at ≤ 65536)
+Inv-loop order0 matrix0 words0 labels0 n0 edges0 order1 matrix1 words1 labels1 n1 edges1 k set page₀ bytes₀ p₀ t₀ count₀ progress₀ turns₀ page bytes p t count progress turns =
+    (progress .at ≤ 65536)
     × (32768 ≡ length bytes)
     × ((g₀ g₁ : Graph)
     → TablesFor (settingsIn set) k order0 (arrays n0 edges0 matrix0 words0 labels0) order1 (arrays n1 edges1 matrix1 words1 labels1) g₀ g₁
     → Stands (task (settingsIn set) g₀ g₁) (sizesOf k (arrays n0 edges0 matrix0 words0 labels0) (arrays n1 edges1 matrix1 words1 labels1)) p t)
 
 abbrev μ-loop : tie.MeasureT-loop
-μ-loop order0 matrix0 words0 labels0 n0 edges0 order1 matrix1 words1 labels1 n1 edges1 k set page₀ bytes₀ p₀ t₀ count₀ maps₀ at₀ turns₀ t26 t27 page bytes p t count maps at turns =
+μ-loop order0 matrix0 words0 labels0 n0 edges0 order1 matrix1 words1 labels1 n1 edges1 k set page₀ bytes₀ p₀ t₀ count₀ progress₀ turns₀ page bytes p t count progress turns =
     turns
 
 abbrev Tables : tie.Start Inv-loop μ-loop → Graph → Graph → Type 0
@@ -59,19 +59,19 @@ nodes-most : (c : tie.Start Inv-loop μ-loop) → c .args .n1 ≤ 128
 nodes-most c = c .pre .0 .tables .searches .tabled .prepared₁ .nodes-most
 
 abbrev start : tie.After-gather Inv-loop μ-loop → tie.Start Inv-loop μ-loop
-start c = c .before .before .before .before .before
+start c = c .before .before .before .before .before .before .before .before
 
 -- the search stands after a batch as it stood before
 stands-then : (c : tie.After-gather Inv-loop μ-loop) (g₀ g₁ : Graph) → Tables (start c) g₀ g₁
     → Stands (task (settingsIn (start c .args .set)) g₀ g₁) (sizes (start c)) (c .gather .result .pairs) (c .gather .result .top)
 stands-then c g₀ g₁ tables =
-    c .gather .ensures _ g₀ g₁ (tables .searches) (c .before .before .before .loop .inv .2 g₀ g₁ tables) (counts (start c) g₀ g₁ tables)
+    c .gather .ensures _ g₀ g₁ (tables .searches) (c .before .before .before .before .before .loop .inv .2 g₀ g₁ tables) (counts (start c) g₀ g₁ tables)
     (tables .order₀-is) (tables .order₁-is) .stands
 
 maps-most : (c : tie.After-gather Inv-loop μ-loop) → c .gather .result .maps ≤ 128
 maps-most c =
     let given = start c .pre .0 in
-    let l = c .before .before .before .loop in
+    let l = c .before .before .before .before .before .loop in
     let gathers =
     c .gather .ensures _ (given .graph₀) (given .graph₁) (given .tables .searches) (l .inv .2 (given .graph₀) (given .graph₁) (given .tables))
     (counts (start c) (given .graph₀) (given .graph₁) (given .tables)) (given .tables .order₀-is) (given .tables .order₁-is) in
@@ -80,17 +80,20 @@ maps-most c =
 new-requires : tie.Need-new-requires Inv-loop μ-loop
 new-requires c κs = (c .pre .0 .tables .searches .tabled .prepared₀ .nodes-most, nodes-most c)
 
+going-on-requires : tie.Need-going-on-requires Inv-loop μ-loop
+going-on-requires c κs = search needs
+
 loop-holds : tie.Need-loop-holds Inv-loop μ-loop
 loop-holds c =
-    (omega arith, refl, λ g₀ g₁ tables. record { follows = begun-follows (tables .searches .tabled) (c .new .ensures); offered = refl })
+    (omega arith, refl, λ g₀ g₁ tables. record { follows = begun-follows (tables .searches .tabled) (c .before .new .ensures); offered = refl })
 
 slice-aggregate-gather : tie.Need-slice-aggregate-gather Inv-loop μ-loop
 slice-aggregate-gather c = search needs
 
 gather-requires : tie.Need-gather-requires Inv-loop μ-loop
 gather-requires c κs =
-    let l = c .before .before in
-    let first = l .before .before in
+    let l = c .before .before .before .before in
+    let first = l .before .before .before in
     let given = first .pre .0 in (
       record {
         task′ = task (settingsIn (first .args .set)) (given .graph₀) (given .graph₁);
@@ -101,52 +104,10 @@ gather-requires c κs =
       (omega arith, omega (arith, nodes-most first, l .loop .inv .1)),
     )
 
-counted-requires : tie.Need-counted-requires Inv-loop μ-loop
-counted-requires c κs = search needs
-
-put-maps-requires : tie.Need-put-maps-requires Inv-loop μ-loop
-put-maps-requires c κs =
-    let gathered = c .before .before .before .before .before in
-    (gathered .before .before .before .loop .inv .0, (maps-most gathered, nodes-most (start gathered)))
-
-returns : tie.Need-returns Inv-loop μ-loop
-returns c = search needs
-
-enum-told : tie.Need-enum-told Inv-loop μ-loop
-enum-told c = search needs
-
-enum-told-2 : tie.Need-enum-told-2 Inv-loop μ-loop
-enum-told-2 c = search needs
-
-enum-told-3 : tie.Need-enum-told-3 Inv-loop μ-loop
-enum-told-3 c = search needs
-
-slice-aggregate-write-last : tie.Need-slice-aggregate-write-last Inv-loop μ-loop
-slice-aggregate-write-last c = search needs
-
-wide-requires : tie.Need-wide-requires Inv-loop μ-loop
-wide-requires c κs = search needs
-
-write-last-requires : tie.Need-write-last-requires Inv-loop μ-loop
-write-last-requires c κs = search needs
-
-returns-2 : tie.Need-returns-2 Inv-loop μ-loop
-returns-2 c = search needs
-
-enum-told-4 : tie.Need-enum-told-4 Inv-loop μ-loop
-enum-told-4 c = search needs
-
-slice-aggregate-write-last-2 : tie.Need-slice-aggregate-write-last-2 Inv-loop μ-loop
-slice-aggregate-write-last-2 c = search needs
-
-wide-requires-2 : tie.Need-wide-requires-2 Inv-loop μ-loop
-wide-requires-2 c κs = search needs
-
-write-last-requires-2 : tie.Need-write-last-requires-2 Inv-loop μ-loop
-write-last-requires-2 c κs = search needs
-
-returns-3 : tie.Need-returns-3 Inv-loop μ-loop
-returns-3 c = search needs
+put-batch-requires : tie.Need-put-batch-requires Inv-loop μ-loop
+put-batch-requires c κs =
+    let gathered = c .before .before .before .before in
+    (gathered .before .before .before .before .before .loop .inv .0, (maps-most gathered, nodes-most (start gathered)))
 
 sub-turns : tie.Need-sub-turns Inv-loop μ-loop
 sub-turns c = search needs
@@ -156,11 +117,14 @@ loop-less c = search needs
 
 loop-again : tie.Need-loop-again Inv-loop μ-loop
 loop-again c =
-    let back = c .before .before .before .before .before .before .before .before in
+    let back = c .before .before .before .before in
     (omega arith, sym (back .bytes2 .given), stands-then (back .before))
 
-returns-4 : tie.Need-returns-4 Inv-loop μ-loop
-returns-4 c = search needs
+returns : tie.Need-returns Inv-loop μ-loop
+returns c = search needs
+
+returns-2 : tie.Need-returns-2 Inv-loop μ-loop
+returns-2 c = search needs
 
 pub list-prepared-spec : {M : Type 1} → statement M
 list-prepared-spec =
@@ -169,25 +133,13 @@ list-prepared-spec =
     Inv-loop
     μ-loop
     new-requires
+    going-on-requires
     loop-holds
     slice-aggregate-gather
     gather-requires
-    counted-requires
-    put-maps-requires
-    returns
-    enum-told
-    enum-told-2
-    enum-told-3
-    slice-aggregate-write-last
-    wide-requires
-    write-last-requires
-    returns-2
-    enum-told-4
-    slice-aggregate-write-last-2
-    wide-requires-2
-    write-last-requires-2
-    returns-3
+    put-batch-requires
     sub-turns
     loop-less
     loop-again
-    returns-4)
+    returns
+    returns-2)

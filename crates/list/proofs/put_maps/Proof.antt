@@ -21,8 +21,8 @@ make-room-requires c κs = search needs
 returns : tie.Need-returns Inv-loop μ-loop
 returns c = search needs
 
-mul-put-map : tie.Need-mul-put-map Inv-loop μ-loop
-mul-put-map c = omega arith
+mul-put-line : tie.Need-mul-put-line Inv-loop μ-loop
+mul-put-line c = omega arith
 
 -- each map's bytes lie within the buffer
 within : (i maps pairs : ℕ) → i < maps → maps ≤ 128 → pairs ≤ 128 → i * (2 * pairs) + 2 * pairs ≤ 32768
@@ -30,14 +30,14 @@ within i maps pairs less few small =
     let last : suc i ≤ 128 = omega (arith, less, few) in
     omega (arith, mul-le-mul-right (2 * pairs) last, small)
 
-mul-put-map-2 : tie.Need-mul-put-map-2 Inv-loop μ-loop
-mul-put-map-2 c =
+mul-put-line-2 : tie.Need-mul-put-line-2 Inv-loop μ-loop
+mul-put-line-2 c =
     let l = c .before .before .before .before .before .before in
     let a = l .before .args in
     omega (arith, within (l .loop .i) (a .maps) (a .pairs) (omega arith) (l .before .pre .1 .0) (l .before .pre .1 .1))
 
-put-map-requires : tie.Need-put-map-requires Inv-loop μ-loop
-put-map-requires c κs =
+put-line-requires : tie.Need-put-line-requires Inv-loop μ-loop
+put-line-requires c κs =
     let l = c .before .before .before .before .before .before in
     let a = l .before .args in
     (omega arith, within (l .loop .i) (a .maps) (a .pairs) (omega arith) (l .before .pre .1 .0) (l .before .pre .1 .1))
@@ -63,9 +63,9 @@ put-maps-spec =
     loop-holds
     make-room-requires
     returns
-    mul-put-map
-    mul-put-map-2
-    put-map-requires
+    mul-put-line
+    mul-put-line-2
+    put-line-requires
     add-i
     loop-less
     loop-again

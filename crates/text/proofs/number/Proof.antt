@@ -4,7 +4,6 @@ use Prim.Native.Nat.{ℕ, _+_, _*_, _-_, _^_, _≤_, _<_}
 use mathlib.Core.Bool.{Bool, true}
 use mathlib.Core.List.{List}
 use mathlib.Core.Path.{_≡_, refl, sym, _∙_}
-use native.Mathlib.Nat.{pow-le-pow-right}
 use native.Mathlib.Numerals.{add-one}
 use native.Mathlib.Omega.{arith}
 use lib.Dec.{ltb, eqb}
@@ -14,6 +13,7 @@ use Rattle.lists.specs.Lists.{from, any}
 use Rattle.lists.proofs.Decides.{Decides, decides-itself, decides-any, decides-false}
 use Rattle.lists.proofs.Tests.{case}
 use Rattle.text.specs.Text.{valueOf, spelled, numberAt}
+use Rattle.text.proofs.Decimal.{power-at-most}
 use Rattle.text.proofs.number.Statement.{statement}
 use Rattle.text.proofs.number.Tie as tie
 
@@ -24,9 +24,6 @@ spelled-none text at = refl
 spelled-more : (text : List ℕ) (at i : ℕ) → spelled text at (i + 1) ≡ 10 * spelled text at i + valueOf (getD text (at + i) 0)
 unfolding spelled
 spelled-more text at i = rw (add-one i)
-
-power-at-most : (i k : ℕ) → i ≤ k → 10 ^ i ≤ 10 ^ k
-power-at-most i k h = pow-le-pow-right (omega arith) h
 
 power-more : (i : ℕ) → 10 ^ (i + 1) ≡ 10 * 10 ^ i
 power-more i = rw (add-one i) (omega arith)

@@ -1,6 +1,9 @@
 -- `text::put_number` meets its contract: the digits that `io::decimal` answers are the bytes that are put.
+use mathlib.Core.Path.{sym, ap}
 use native.Mathlib.Omega.{arith}
+use lib.ListN.{length}
 use borrow.Author.Needs.{needs}
+use Rattle.text.proofs.Decimal.{decimal-is, digits-length}
 use Rattle.text.proofs.put_number.Statement.{statement}
 use Rattle.text.proofs.put_number.Tie as tie
 
@@ -21,13 +24,13 @@ same-length c = search needs
 
 returns : tie.Need-returns
 returns c =
-    let decimal = c .before .before .before .before .before .decimal in
+    let digits = c .before .before .before .before .before .decimal in
     let put = c .before .before .put-bytes in
+    let n = c .before .before .before .before .before .before .before .before .args .n in
+    let spelled = decimal-is n (digits .result) (digits .ensures .1 .0) in
     record {
-      places = decimal .result;
-      fewest = decimal .ensures .1 .0;
-      holds = rw (decimal .ensures .1 .1) at (put .ensures .1);
-      ends = omega (arith, put .ensures .0, decimal .ensures .0 .1);
+      holds = rw (digits .ensures .1 .1, sym spelled) at (put .ensures .1);
+      ends = omega (arith, put .ensures .0, digits .ensures .0 .1, ap length spelled, digits-length (digits .result) n);
     }
 
 pub put-number-spec : {M : Type 1} → statement M
