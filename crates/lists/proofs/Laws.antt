@@ -6,8 +6,8 @@ use mathlib.Core.Path.{_≡_, refl, sym, _∙_, ap}
 use native.Mathlib.Omega.{arith}
 use native.Mathlib.Numerals.{add-one}
 use lib.Dec.{eqb}
-use lib.ListN.{length, getD, set, replicate, length-append}
-use lib.Seq.{getD-set-same, getD-set-other}
+use lib.ListN.{length, getD, set, drop, replicate, length-append}
+use lib.Seq.{getD-set-same, getD-set-other, set-at, drop-cons, append-snoc}
 use borrow.Author.Count.{below-more}
 use borrow.Author.Tests.{eqb-true, eqb-false, eq-eqb, ne-eqb}
 use Rattle.lists.specs.Lists.{from, any, count, keep, total, member, without}
@@ -401,6 +401,14 @@ pub stored-more : {A : Type 0} (P : ℕ → A → Type 0) (d : A) (l : List A) (
     → ((i : ℕ) → i < v → P i (getD l i d)) → P v x → (i : ℕ) → i < v + 1 → P i (getD (set l v x) i d)
 stored-more P d l v x h before here =
     below-more _ v (λ i b. rw (getD-set-other l v i x d (λ e. omega arith)) (before i b)) (rw (getD-set-same l v x d h) here)
+
+-- a list that goes on behind xs as l does, once x is stored behind xs
+pub stored-behind : {A : Type 0} (xs l : List A) (i : ℕ) (x : A) → length xs ≡ i → i < length l
+    → set (xs ++ drop i l) i x ≡ (xs ++ (x ∷ [])) ++ drop (i + 1) l
+stored-behind xs l i x e h =
+    let rest = drop (i + 1) l in
+    let split : drop i l ≡ getD l i x ∷ rest = rw (add-one i) (drop-cons l i x h) in
+    rw (split, set-at xs (getD l i x) rest x i e, append-snoc xs x rest)
 
 -- a list of the default is the default wherever it is asked
 pub getD-replicate-default : {A : Type 0} (n : ℕ) (d : A) (i : ℕ) → getD (replicate n d) i d ≡ d

@@ -17,6 +17,9 @@ abbrev pub option-case : {A C : Type 0} (o : Option A) → (o ≡ none → C) �
 option-case none f g = f refl
 option-case (some x) f g = g x refl
 
+pub none-not-some : {A C : Type 0} {x : A} → none ≡ some x → C
+none-not-some e = let z : _≡_ {A = ℕ} 0 1 = cc in absurd (omega arith)
+
 pub never : {C : Type 0} (b : Bool) → b ≡ true → b ≡ false → C
 never b t f = absurd (true≢false (sym t ∙ f))
 
@@ -38,6 +41,10 @@ not-true false e = refl
 pub or-false : (a : Bool) → (a || false) ≡ a
 or-false true = refl
 or-false false = refl
+
+pub or-true : (a : Bool) → (a || true) ≡ true
+or-true true = refl
+or-true false = refl
 
 -- a test that the other implies adds nothing
 pub or-implied : (a b : Bool) → (b ≡ true → a ≡ true) → (a || b) ≡ a
