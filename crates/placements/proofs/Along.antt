@@ -4,7 +4,7 @@ use Prim.Native.Nat.{ℕ, _<_}
 use mathlib.Core.Bool.{Bool, true, false, _||_}
 use mathlib.Core.List.{List, [], _∷_}
 use mathlib.Core.Option.{some}
-use mathlib.Core.Path.{_≡_, refl, sym, _∙_, ap}
+use mathlib.Core.Path.{_≡_, refl, sym, _∙_}
 use native.Mathlib.Omega.{arith}
 use lib.Dec.{eqb, ltb}
 use borrow.Author.Tests.{eqb-true, ltb-true, lt-ltb}
@@ -14,10 +14,6 @@ use Rattle.lists.proofs.Laws.{any-nil, any-cons, member-nil, member-head, membe
 use Rattle.rules.specs.Task.{Pairs, exchanged, mapped, partner}
 use Rattle.rules.specs.Marks.{follows}
 use Rattle.rules.proofs.Laws.{partner-nil, partner-own, partner-other}
-
-pub exchanged-twice : (ps : Pairs) → exchanged (exchanged ps) ≡ ps
-exchanged-twice [] = refl
-exchanged-twice (p ∷ ps) = ap (λ l. p ∷ l) (exchanged-twice ps)
 
 pub follows-nil : (edges : ℕ → ℕ → ℕ) (x : ℕ) → follows edges [] x ≡ false
 unfolding follows
