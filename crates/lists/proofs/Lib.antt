@@ -1,5 +1,6 @@
 pub mod Tests
 pub mod Laws
+pub mod Filled
 pub mod Decides
 pub mod Distinct
 pub mod Place
