@@ -14,7 +14,7 @@ use Rattle.packed.specs.Graph.{nodes}
 use Rattle.packed.specs.Packed.{nodeCount, graphOf}
 use Rattle.packed.specs.Refusals.{Refused, Line, first}
 use Rattle.packed.specs.Settings.{settingsOf}
-use Rattle.packed.proofs.First.{first-behind}
+use Rattle.packed.proofs.First.{first-behind, none-of-nil, none-of-cons, none-for-cons, none-of-both}
 use Rattle.packed.proofs.Accepted.{nodes-of-graph}
 use Rattle.order.specs.Paper.{written}
 use Rattle.order.proofs.Renumbered.{order-keeps-nodes}
@@ -26,7 +26,6 @@ use Rattle.placements.specs.Claims as claims
 use Rattle.placements.specs.Claims.{permutations}
 use Rattle.promises.specs.Sessions.{mapIn}
 use Rattle.promises.specs.Promises.{search, LongEnough, mostSteps, refusalOf}
-use Rattle.promises.proofs.Files.{none-of-both, none-of-cons, none-for-cons, none-of-nil}
 use Rattle.promises.proofs.Bytes.{map-read, pairs-length}
 
 module _ (f₀ f₁ s : List ℕ) where

@@ -18,13 +18,14 @@ use Rattle.rules.specs.Task.{Task}
 use Rattle.rules.specs.Search.{Record, started, acceptedRecord}
 use Rattle.rules.specs.Handed.{Handed, recordOf, pathBytes, handed, zeroBeyond, acceptedHanded}
 use Rattle.rules.specs.Calls.{pairLines, orWent, recordLines, continueSays}
+use Rattle.rules.proofs.Handed.{chosen-length}
 use Rattle.placements.specs.Calls.{unlimited, after}
 use Rattle.placements.proofs.Accepted.{accepted-stays}
 use Rattle.placements.proofs.Bound.{steps-within}
 use Rattle.placements.proofs.Records.{records}
 use Rattle.promises.specs.Promises.{refusalOf, AcceptedNext, PassedAfter, RecordsMeanSomething}
 use Rattle.promises.proofs.Files.{not-refused, files-accepted, begins}
-use Rattle.promises.proofs.Bytes.{accepted-handed, chosen-length, bytes-again, handed-length}
+use Rattle.promises.proofs.Bytes.{accepted-handed, bytes-again, handed-length}
 use Rattle.promises.proofs.Continued.{t, task-nodes₀, most-steps, continue-goes, went-goes, went-parts, goes-unless}
 
 -- an accepted path is no longer than file 0's nodes are many
