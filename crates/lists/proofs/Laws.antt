@@ -6,7 +6,7 @@ use mathlib.Core.Path.{_≡_, refl, sym, _∙_, ap}
 use native.Mathlib.Omega.{arith}
 use native.Mathlib.Numerals.{add-one}
 use lib.Dec.{eqb}
-use lib.ListN.{length, getD, set, drop, replicate, length-append}
+use lib.ListN.{length, getD, set, drop, replicate}
 use lib.Seq.{getD-set-same, getD-set-other, set-at, drop-cons, append-snoc}
 use borrow.Author.Count.{below-more}
 use borrow.Author.Tests.{eqb-true, eqb-false, eq-eqb, ne-eqb}
@@ -160,12 +160,16 @@ module _ {A : Type 0} where
       (λ e. rw (keep-true p x (xs ++ ys) e, keep-true p x xs e, keep-append p xs ys))
       (λ e. rw (keep-false p x (xs ++ ys) e, keep-false p x xs e, keep-append p xs ys))
 
+  pub keep-length : (p : A → Bool) (xs : List A) → length (keep p xs) ≡ count p xs
+  keep-length p [] = rw (keep-nil p, count-nil p)
+  keep-length p (x ∷ xs) =
+      rw (count-cons p x xs)
+      (case (p x)
+      (λ e. rw (keep-true p x xs e, e) (omega (arith, keep-length p xs)))
+      (λ e. rw (keep-false p x xs e, e) (omega (arith, keep-length p xs))))
+
   pub keep-most : (p : A → Bool) (xs : List A) → length (keep p xs) ≤ length xs
-  keep-most p [] = rw keep-nil (omega arith)
-  keep-most p (x ∷ xs) =
-      case (p x)
-      (λ e. rw (keep-true p x xs e) (omega (arith, keep-most p xs)))
-      (λ e. rw (keep-false p x xs e) (omega (arith, keep-most p xs)))
+  keep-most p xs = omega (arith, keep-length p xs, count-most p xs)
 
   -- what passes two tests, one after the other
   pub keep-keep : (p q r : A → Bool) (xs : List A) → ((x : A) → r x ≡ (q x && p x)) → keep q (keep p xs) ≡ keep r xs
@@ -251,13 +255,6 @@ module _ (p : ℕ → Bool) where
   keep-from-false k e =
       let h : 0 + k ≡ k = omega arith in
       rw (from-more 0 k, h, keep-append p (from 0 k) (k ∷ []), keep-false p k [] e, keep-nil p, append-nil (keep p (from 0 k)))
-
-  -- one that passes is one more
-  pub keep-from-length : (k : ℕ) → length (keep p (from 0 (k + 1))) ≡ length (keep p (from 0 k)) + cond (p k) 1 0
-  keep-from-length k =
-      case (p k)
-      (λ e. rw (keep-from-true k e, e) (length-append (keep p (from 0 k)) (k ∷ [])))
-      (λ e. rw (keep-from-false k e, e) (omega arith))
 
   pub keep-from-none : (k i : ℕ) → ((x : ℕ) → i ≤ x → p x ≡ false) → keep p (from i k) ≡ []
   keep-from-none zero i h = rw (from-none i, keep-nil p)
