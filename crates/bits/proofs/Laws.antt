@@ -1,6 +1,6 @@
 -- Laws of a field: one bit more, its bound, fields side by side, equal fields and their bits, and a byte as its own field.
 use Prim.Native.Nat.{ℕ, zero, suc, _+_, _*_, _/_, _-_, _%_, _^_, _<_, _≤_}
-use mathlib.Core.Bool.{Bool, not, _||_}
+use mathlib.Core.Bool.{Bool, not, _||_, or-false, or-true}
 use mathlib.Core.Path.{_≡_, refl, sym, _∙_, ap}
 use mathlib.Core.List.{List}
 use native.Mathlib.Nat.{pow-suc, mod-lt, add-assoc, mul-assoc, mul-zero, mul-suc, div-eq-of-lt, div-one, div-add-mod', div-div-eq-div-mul}
@@ -10,7 +10,7 @@ use lib.Dec.{eqb, lit<}
 use lib.ListN.{getD}
 use borrow.Author.Tests.{eqb-true, eqb-false, eq-eqb, ne-eqb}
 use Rattle.lists.specs.Lists.{from, any}
-use Rattle.lists.proofs.Tests.{case, or-false, or-true}
+use Rattle.lists.proofs.Tests.{case}
 use Rattle.lists.proofs.Laws.{from-none, from-more, any-nil, any-cons, any-append}
 use Rattle.bits.specs.Bits.{bitAt, field}
 

@@ -1,6 +1,6 @@
 -- Laws of the words of specs/Lists: each word at the empty list, at one element more in front, and at one more behind.
 use Prim.Native.Nat.{ℕ, zero, suc, _+_, _≤_, _<_, _-_}
-use mathlib.Core.Bool.{Bool, true, false, cond, _&&_, _||_, not}
+use mathlib.Core.Bool.{Bool, true, false, cond, _&&_, _||_, not, or-false, or-assoc}
 use mathlib.Core.List.{List, [], _∷_, _++_, map, append-nil}
 use mathlib.Core.Path.{_≡_, refl, sym, _∙_, ap}
 use native.Mathlib.Omega.{arith}
@@ -9,9 +9,9 @@ use lib.Dec.{eqb}
 use lib.ListN.{length, getD, set, drop, replicate}
 use lib.Seq.{getD-set-same, getD-set-other, set-at, drop-cons, append-snoc}
 use borrow.Author.Count.{below-more}
-use borrow.Author.Tests.{eqb-true, eqb-false, eq-eqb, ne-eqb}
+use borrow.Author.Tests.{eqb-true, eqb-false, eq-eqb, ne-eqb, not-true}
 use Rattle.lists.specs.Lists.{from, any, count, keep, total, member, without}
-use Rattle.lists.proofs.Tests.{case, never, not-true, or-false, or-assoc, false-by}
+use Rattle.lists.proofs.Tests.{case, never, false-by}
 
 -- from
 

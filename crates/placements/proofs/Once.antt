@@ -1,14 +1,14 @@
 -- The listing holds whole accepted paths only, and each placement once: at a path that lies along the placement exactly one node
 -- that is tried lies along it too, it is acceptable, and no other path leads there.
 use Prim.Native.Nat.{ℕ, zero, suc, _+_, _≤_, _<_}
-use mathlib.Core.Bool.{Bool, true, false, cond, _&&_, not}
+use mathlib.Core.Bool.{Bool, true, false, cond, _&&_}
 use mathlib.Core.List.{List, [], _∷_, _++_, nil≢cons}
 use mathlib.Core.Option.{some}
 use mathlib.Core.Path.{_≡_, refl, sym, _∙_, ap}
 use native.Mathlib.Omega.{arith}
 use lib.Dec.{eqb}
 use lib.ListN.{length}
-use borrow.Author.Tests.{eqb-true, eqb-false, eq-eqb}
+use borrow.Author.Tests.{eqb-true, eqb-false, eq-eqb, not-false}
 use Rattle.lists.specs.Lists.{from, count, keep, member}
 use Rattle.lists.proofs.Tests.{case, option-case, never, and-intro, and-left, and-right, false-by, by-iff}
 use Rattle.lists.proofs.Laws.{from-length, count-nil, count-cons, count-append, keep-nil, keep-true, keep-false, member-head, member-tail, member-from}
@@ -197,14 +197,10 @@ module _ (t : Task) where
           option-case (candidateAt t path)
           (λ h. candidate-none t ps h
           (λ none-left. absurd (full (λ x l.
-          sym (placed-alike t φ sound agreed p ps (lies-along path a e) x l) ∙ not-not (member (φ x) (mapped ps))
+          sym (placed-alike t φ sound agreed p ps (lies-along path a e) x l) ∙ not-false (member (φ x) (mapped ps))
           (none-left (φ x) (p .within x l)))))
-          (λ none-left. absurd (full (λ x l. not-not (member x us) (none-left x l)))))
+          (λ none-left. absurd (full (λ x l. not-false (member x us) (none-left x l)))))
           f
-        where
-          not-not : (b : Bool) → not b ≡ false → b ≡ true
-          not-not true h = refl
-          not-not false h = sym h
 
       -- the image of the candidate's node is tried
       image-tried : (path : List ℕ) → acceptedPath t path ≡ true → lies path ≡ true → (c : Candidate) → candidateAt t path ≡ some c
