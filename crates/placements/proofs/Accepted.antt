@@ -1,18 +1,17 @@
 -- From an accepted record only accepted ones follow, and a map that is found is a whole accepted path, and so a placement.
 use Prim.Native.Nat.{ℕ}
-use mathlib.Core.Bool.{true, false, _&&_}
+use mathlib.Core.Bool.{true, false}
 use mathlib.Core.List.{List, [], _∷_}
 use mathlib.Core.Path.{_≡_, refl}
-use lib.Dec.{leb}
 use lib.ListN.{length}
 use borrow.Author.Tests.{le-leb}
-use Rattle.lists.proofs.Tests.{case, option-case, never, and-intro, and-left, and-right}
+use Rattle.lists.proofs.Tests.{case, option-case, never, and-intro}
 use Rattle.packed.specs.Graph.{nodes}
 use Rattle.rules.specs.Task.{Task}
 use Rattle.rules.specs.Search.{Top, Outer, Inner, Unwind, Record, started, candidateAt, onward, accepts, above, raised, step, continue, acceptedPath, topOffered, acceptedRecord}
 use Rattle.placements.specs.Listed.{whole}
 use Rattle.placements.specs.Claims.{Sound, AcceptedStays, EveryMapPlaces}
-use Rattle.rules.proofs.Stays.{outer-offered, onward-offered, path-joined, path-last}
+use Rattle.rules.proofs.Stays.{record-passes, outer-offered, onward-offered, path-joined, path-last}
 use Rattle.placements.proofs.Paths.{accepted-nil, depth₀, depth₁}
 use Rattle.placements.proofs.Placed.{path-places}
 use Rattle.placements.proofs.Steps.{step-candidate, step-none, step-taken, step-over, step-passed, step-left, step-end, run-keeps, run-found}
@@ -31,11 +30,9 @@ module _ (t : Task) where
       (and-intro (g .path-accepted) (g .top-offered)))
 
   pub accepted-good : (r : Record) → acceptedRecord t r ≡ true → Good r
-  unfolding acceptedRecord
   accepted-good r e =
-      let f : (acceptedPath t (r .path) && topOffered t (r .path) (r .top)) ≡ true =
-      and-right (leb (length (r .path)) (nodes (t .graph₁))) _ (and-right (leb (length (r .path)) (nodes (t .graph₀))) _ e) in
-      record { path-accepted = and-left (acceptedPath t (r .path)) _ f; top-offered = and-right (acceptedPath t (r .path)) _ f }
+      let p = record-passes t r e in
+      record { path-accepted = p .path-accepted; top-offered = p .top-offered }
 
   step-good : (path : List ℕ) (top : Top) (k : ℕ) → Good (record { path = path; top = top; accepted = k }) → Good (step t path top k .0)
   step-good path Outer k g =
