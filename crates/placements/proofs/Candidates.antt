@@ -3,11 +3,11 @@ use Prim.Native.Nat.{ℕ, _-_, _<_}
 use mathlib.Core.Bool.{Bool, false, _&&_}
 use mathlib.Core.List.{List, [], _∷_}
 use mathlib.Core.Option.{Option, none, some}
-use mathlib.Core.Path.{_≡_, refl}
+use mathlib.Core.Path.{_≡_, refl, sym}
 use native.Mathlib.Omega.{arith}
 use lib.Dec.{ltb}
 use Rattle.lists.specs.Lists.{from, keep, member}
-use Rattle.lists.proofs.Tests.{never, false-by}
+use Rattle.lists.proofs.Tests.{never, false-by, none-not-some}
 use Rattle.lists.proofs.Laws.{member-nil, member-kept, from-member}
 use Rattle.packed.specs.Graph.{nodes}
 use Rattle.rules.specs.Task.{Task, Pairs, exchanged, mapped}
@@ -16,7 +16,7 @@ use Rattle.rules.specs.Search.{pairsOf, candidateAt, offered}
 
 head-none : (l : List ℕ) → head l ≡ none → l ≡ []
 head-none [] e = refl
-head-none (y ∷ l) e = absurd (let z : _≡_ {A = ℕ} 0 1 = cc in omega arith)
+head-none (y ∷ l) e = none-not-some (sym e)
 
 pub least-none : (p : ℕ → Bool) (n x : ℕ) → least p n 0 ≡ none → x < n → p x ≡ false
 least-none p n x e l =
@@ -35,11 +35,11 @@ module _ (t : Task) where
   both-none : {C : Type 0} (list : OpenList) (x y : Option ℕ) → both list x y ≡ none → (x ≡ none → C) → (y ≡ none → C) → C
   both-none list none y e f g = f refl
   both-none list (some x) none e f g = g refl
-  both-none list (some x) (some y) e f g = absurd (let z : _≡_ {A = ℕ} 0 1 = cc in omega arith)
+  both-none list (some x) (some y) e f g = none-not-some (sym e)
 
   or-else-none : (c d : Option Candidate) → orElse c d ≡ none → d ≡ none
   or-else-none none d e = e
-  or-else-none (some c) d e = absurd (let z : _≡_ {A = ℕ} 0 1 = cc in omega arith)
+  or-else-none (some c) d e = none-not-some (sym e)
 
   pub candidate-none : {C : Type 0} (ps : Pairs) → candidate t ps ≡ none
       → (((x : ℕ) → x < nodes (t .graph₀) → inList₀ ps Other x ≡ false) → C)

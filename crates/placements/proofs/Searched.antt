@@ -9,7 +9,7 @@ use native.Mathlib.Omega.{arith}
 use lib.ListN.{length}
 use borrow.Author.Tests.{lt-ltb}
 use Rattle.lists.specs.Lists.{from, keep, total, member}
-use Rattle.lists.proofs.Tests.{case, option-case}
+use Rattle.lists.proofs.Tests.{case, option-case, none-not-some}
 use Rattle.lists.proofs.Laws.{from-none, from-suc, keep-nil, keep-true, keep-false, keep-same-from, total-nil, total-cons, member-head, member-tail}
 use Rattle.packed.specs.Graph.{nodes}
 use Rattle.rules.specs.Task.{Task}
@@ -179,7 +179,7 @@ module _ (t : Task) where
     alone path e x = case (whole t path) (λ w. rw w (found e w x)) (λ w. rw w (closed e w x))
 
     pub or-others : (path l : List ℕ) (x : ℕ) (maps : List (List ℕ)) → head l ≡ some x → orItself t path l maps ≡ maps
-    or-others path [] x maps e = absurd (let z : _≡_ {A = ℕ} 0 1 = cc in omega arith)
+    or-others path [] x maps e = none-not-some e
     or-others path (y ∷ l) x maps e = refl
 
     pub below : (k : ℕ) (path : List ℕ) → acceptedPath t path ≡ true → nodes (t .graph₁) ≤ k + length path → Below end last k path

@@ -4,12 +4,13 @@ use Prim.Native.Nat.{ℕ, _+_, _*_}
 use mathlib.Core.Bool.{true}
 use mathlib.Core.List.{List, [], _++_}
 use mathlib.Core.Option.{Option, none, some}
-use mathlib.Core.Path.{_≡_, refl, _∙_, ap}
+use mathlib.Core.Path.{_≡_, refl, sym, _∙_, ap}
 use native.Mathlib.Omega.{arith}
 use lib.ListN.{length, length-map}
 use borrow.Author.Tests.{le-ltb, ltb-false, not-false}
 use Rattle.lists.specs.Lists.{from}
 use Rattle.lists.proofs.Laws.{from-length}
+use Rattle.lists.proofs.Tests.{none-not-some}
 use Rattle.packed.specs.Graph.{nodes}
 use Rattle.packed.specs.Packed.{nodeCount, graphOf}
 use Rattle.packed.specs.Refusals.{Refused, Line, first}
@@ -105,7 +106,7 @@ module _ (f₀ f₁ s : List ℕ) where
         by-first : (o : Option Refused) → first tableLines ≡ o
             → refusalOf (orWent o (settingsOf s) (graphOf f₀) (graphOf f₁) h budget buffer) ≡ none → Goes h buffer
         by-first none q e = lines-none q
-        by-first (some r) q e = let z : _≡_ {A = ℕ} 0 1 = cc in absurd (omega arith)
+        by-first (some r) q e = none-not-some (sym e)
 
 pub went-parts : (a b : Answer) (n m : ℕ) (h k : Handed) (x y : List ℕ) → went a n h x ≡ went b m k y
     → (a ≡ b) × (n ≡ m) × (h ≡ k) × (x ≡ y)
