@@ -1,6 +1,6 @@
 -- Laws of a field: one bit more, its bound, fields side by side, equal fields and their bits, and a byte as its own field.
 use Prim.Native.Nat.{ℕ, zero, suc, _+_, _*_, _/_, _-_, _%_, _^_, _<_, _≤_}
-use mathlib.Core.Bool.{Bool, true, false, not, _||_}
+use mathlib.Core.Bool.{Bool, not, _||_, or-false, or-true}
 use mathlib.Core.Path.{_≡_, refl, sym, _∙_, ap}
 use mathlib.Core.List.{List}
 use native.Mathlib.Nat.{pow-suc, mod-lt, add-assoc, mul-assoc, mul-zero, mul-suc, div-eq-of-lt, div-one, div-add-mod', div-div-eq-div-mul}
@@ -10,7 +10,7 @@ use lib.Dec.{eqb, lit<}
 use lib.ListN.{getD}
 use borrow.Author.Tests.{eqb-true, eqb-false, eq-eqb, ne-eqb}
 use Rattle.lists.specs.Lists.{from, any}
-use Rattle.lists.proofs.Tests.{case, or-false}
+use Rattle.lists.proofs.Tests.{case}
 use Rattle.lists.proofs.Laws.{from-none, from-more, any-nil, any-cons, any-append}
 use Rattle.bits.specs.Bits.{bitAt, field}
 
@@ -41,13 +41,9 @@ field-zero s o (suc k) =
     let small = bit-below s (o + k) in
     rw (last, more, field-zero s o k)
     (case (eqb (bitAt s (o + k)) 1)
-    (λ e. let one = eqb-true (bitAt s (o + k)) 1 e in rw (e, ne-eqb (field s o k * 2 + bitAt s (o + k)) 0 (λ z. omega arith)) (either (not (eqb (field s o k) 0))))
+    (λ e. let one = eqb-true (bitAt s (o + k)) 1 e in rw (e, ne-eqb (field s o k * 2 + bitAt s (o + k)) 0 (λ z. omega arith)) (or-true (not (eqb (field s o k) 0))))
     (λ e. let none = eqb-false (bitAt s (o + k)) 1 e in rw (e, or-false (not (eqb (field s o k) 0))) (ap not (same (field s o k) (bitAt s (o + k)) (omega arith)))))
   where
-    either : (b : Bool) → (b || true) ≡ true
-    either true = refl
-    either false = refl
-
     same : (x b : ℕ) → b ≡ 0 → eqb x 0 ≡ eqb (x * 2 + b) 0
     same x b h =
         case (eqb x 0)

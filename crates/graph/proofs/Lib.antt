@@ -1,3 +1,4 @@
 pub mod Walk
 pub mod Matrix
+pub mod Words
 pub mod Files

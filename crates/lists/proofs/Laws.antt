@@ -1,17 +1,17 @@
 -- Laws of the words of specs/Lists: each word at the empty list, at one element more in front, and at one more behind.
 use Prim.Native.Nat.{ℕ, zero, suc, _+_, _≤_, _<_, _-_}
-use mathlib.Core.Bool.{Bool, true, false, cond, _&&_, _||_, not}
+use mathlib.Core.Bool.{Bool, true, false, cond, _&&_, _||_, not, or-false, or-assoc}
 use mathlib.Core.List.{List, [], _∷_, _++_, map, append-nil}
 use mathlib.Core.Path.{_≡_, refl, sym, _∙_, ap}
 use native.Mathlib.Omega.{arith}
 use native.Mathlib.Numerals.{add-one}
 use lib.Dec.{eqb}
-use lib.ListN.{length, getD, set, replicate, length-append}
-use lib.Seq.{getD-set-same, getD-set-other}
+use lib.ListN.{length, getD, set, drop, replicate}
+use lib.Seq.{getD-set-same, getD-set-other, set-at, drop-cons, append-snoc}
 use borrow.Author.Count.{below-more}
-use borrow.Author.Tests.{eqb-true, eqb-false, eq-eqb, ne-eqb}
+use borrow.Author.Tests.{eqb-true, eqb-false, eq-eqb, ne-eqb, not-true}
 use Rattle.lists.specs.Lists.{from, any, count, keep, total, member, without}
-use Rattle.lists.proofs.Tests.{case, never, not-true, or-false, or-assoc, false-by}
+use Rattle.lists.proofs.Tests.{case, never, false-by}
 
 -- from
 
@@ -160,12 +160,16 @@ module _ {A : Type 0} where
       (λ e. rw (keep-true p x (xs ++ ys) e, keep-true p x xs e, keep-append p xs ys))
       (λ e. rw (keep-false p x (xs ++ ys) e, keep-false p x xs e, keep-append p xs ys))
 
+  pub keep-length : (p : A → Bool) (xs : List A) → length (keep p xs) ≡ count p xs
+  keep-length p [] = rw (keep-nil p, count-nil p)
+  keep-length p (x ∷ xs) =
+      rw (count-cons p x xs)
+      (case (p x)
+      (λ e. rw (keep-true p x xs e, e) (omega (arith, keep-length p xs)))
+      (λ e. rw (keep-false p x xs e, e) (omega (arith, keep-length p xs))))
+
   pub keep-most : (p : A → Bool) (xs : List A) → length (keep p xs) ≤ length xs
-  keep-most p [] = rw keep-nil (omega arith)
-  keep-most p (x ∷ xs) =
-      case (p x)
-      (λ e. rw (keep-true p x xs e) (omega (arith, keep-most p xs)))
-      (λ e. rw (keep-false p x xs e) (omega (arith, keep-most p xs)))
+  keep-most p xs = omega (arith, keep-length p xs, count-most p xs)
 
   -- what passes two tests, one after the other
   pub keep-keep : (p q r : A → Bool) (xs : List A) → ((x : A) → r x ≡ (q x && p x)) → keep q (keep p xs) ≡ keep r xs
@@ -251,13 +255,6 @@ module _ (p : ℕ → Bool) where
   keep-from-false k e =
       let h : 0 + k ≡ k = omega arith in
       rw (from-more 0 k, h, keep-append p (from 0 k) (k ∷ []), keep-false p k [] e, keep-nil p, append-nil (keep p (from 0 k)))
-
-  -- one that passes is one more
-  pub keep-from-length : (k : ℕ) → length (keep p (from 0 (k + 1))) ≡ length (keep p (from 0 k)) + cond (p k) 1 0
-  keep-from-length k =
-      case (p k)
-      (λ e. rw (keep-from-true k e, e) (length-append (keep p (from 0 k)) (k ∷ [])))
-      (λ e. rw (keep-from-false k e, e) (omega arith))
 
   pub keep-from-none : (k i : ℕ) → ((x : ℕ) → i ≤ x → p x ≡ false) → keep p (from i k) ≡ []
   keep-from-none zero i h = rw (from-none i, keep-nil p)
@@ -401,6 +398,14 @@ pub stored-more : {A : Type 0} (P : ℕ → A → Type 0) (d : A) (l : List A) (
     → ((i : ℕ) → i < v → P i (getD l i d)) → P v x → (i : ℕ) → i < v + 1 → P i (getD (set l v x) i d)
 stored-more P d l v x h before here =
     below-more _ v (λ i b. rw (getD-set-other l v i x d (λ e. omega arith)) (before i b)) (rw (getD-set-same l v x d h) here)
+
+-- a list that goes on behind xs as l does, once x is stored behind xs
+pub stored-behind : {A : Type 0} (xs l : List A) (i : ℕ) (x : A) → length xs ≡ i → i < length l
+    → set (xs ++ drop i l) i x ≡ (xs ++ (x ∷ [])) ++ drop (i + 1) l
+stored-behind xs l i x e h =
+    let rest = drop (i + 1) l in
+    let split : drop i l ≡ getD l i x ∷ rest = rw (add-one i) (drop-cons l i x h) in
+    rw (split, set-at xs (getD l i x) rest x i e, append-snoc xs x rest)
 
 -- a list of the default is the default wherever it is asked
 pub getD-replicate-default : {A : Type 0} (n : ℕ) (d : A) (i : ℕ) → getD (replicate n d) i d ≡ d

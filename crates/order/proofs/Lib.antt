@@ -5,7 +5,6 @@ pub mod Renumbered
 pub mod Rank
 pub mod Marks
 pub mod Firsts
-pub mod Filled
 pub mod Taking
 pub mod Rounds
 pub mod Prepared

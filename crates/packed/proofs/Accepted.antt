@@ -3,13 +3,13 @@ use Prim.Native.Nat.{ℕ, _-_, _*_, _≤_, _<_}
 use mathlib.Core.Bool.{Bool, false, _&&_}
 use mathlib.Core.List.{List}
 use mathlib.Core.Option.{some}
-use mathlib.Core.Path.{_≡_, refl, sym, _∙_}
+use mathlib.Core.Path.{_≡_, refl, sym, _∙_, ap}
 use native.Mathlib.Omega.{arith}
 use lib.Dec.{ltb, eqb}
-use lib.ListN.{length, length-map}
+use lib.ListN.{length, getD, length-map}
 use borrow.Author.Tests.{ltb-true, ltb-false, eqb-true, not-false}
 use Rattle.lists.specs.Lists.{from}
-use Rattle.lists.proofs.Laws.{from-length}
+use Rattle.lists.proofs.Laws.{from-length, from-at, map-at}
 use Rattle.lists.proofs.Tests.{and-left, and-right}
 use Rattle.lists.proofs.Decides.{none-passes}
 use Rattle.bits.specs.Bits.{field}
@@ -71,6 +71,30 @@ nodes-of-graph s = length-map (from 0 (nodeCount s)) (labelAt s) ∙ from-length
 pub edges-of-graph : (s : List ℕ) → length (graphOf s .edges) ≡ edgeCount s
 unfolding graphOf
 edges-of-graph s = length-map (from 0 (edgeCount s)) (edgeAt s) ∙ from-length 0 (edgeCount s)
+
+pub label-of-graph : (s : List ℕ) (v : ℕ) → v < nodeCount s → getD (graphOf s .labels) v 0 ≡ labelAt s v
+unfolding graphOf
+label-of-graph s v h =
+    map-at (labelAt s) (from 0 (nodeCount s)) v (rw (from-length 0 (nodeCount s)) h) ∙ ap (labelAt s) (from-at (nodeCount s) v h)
+
+pub graphs-of-one-kind : (s t : List ℕ) → kind s ≡ kind t → graphOf t .directed ≡ graphOf s .directed
+unfolding graphOf
+graphs-of-one-kind s t e = rw e
+
+-- what holds of the counts that Read answered, and of its flag
+module _ {s : List ℕ} {directed : Bool} {n e : ℕ} (counted : Counted s directed n e) where
+  pub counted-nodes-most : n ≤ 128
+  counted-nodes-most = omega (arith, counted .nodes-are, counted .file-accepted .nodes-most)
+
+  pub counted-edges-most : e ≤ 1024
+  counted-edges-most = omega (arith, counted .edges-are, counted .file-accepted .edges-most)
+
+  pub counted-bits-most : usedBits n e ≤ 8 * length s
+  counted-bits-most = omega (arith, counted .nodes-are, counted .edges-are, counted .file-accepted .long)
+
+  pub counted-directed : directed ≡ graphOf s .directed
+  unfolding graphOf
+  counted-directed = counted .directed-is
 
 counts-same : (a : Bool) (b c : ℕ) (d : Bool) (e f : ℕ) → counts a b c ≡ counts d e f → (a ≡ d) × (b ≡ e) × (c ≡ f)
 counts-same a b c d e f h = (cc, cc, cc)

@@ -5,12 +5,12 @@ use mathlib.Core.Bool.{Bool, true, false}
 use mathlib.Core.List.{List, [], _∷_, _++_}
 use mathlib.Core.Logic.{_↔_, Iff·rfl, Iff·trans, Iff·and}
 use mathlib.Core.Option.{Option, none, some}
-use mathlib.Core.Path.{_≡_, refl, sym}
+use mathlib.Core.Path.{_≡_, refl, sym, _∙_}
 use native.Mathlib.Nat.{zero-add}
 use native.Mathlib.Numerals.{add-one}
 use native.Mathlib.Omega.{arith}
 use lib.ListN.{getD}
-use Rattle.lists.proofs.Tests.{case, never}
+use Rattle.lists.proofs.Tests.{case, option-case, none-not-some, never}
 use Rattle.packed.specs.Graph.{Graph}
 use Rattle.packed.specs.Packed.{graphOf}
 use Rattle.packed.specs.Refusals.{Refused, Line, line, first, tooShort, tooManyNodes, tooManyEdges, wrongLength, paddingBit, unknownNode, fileLines, graph, refusal, orGraph, reading}
@@ -24,9 +24,6 @@ numbered n file (b ∷ bs) = line n file b ∷ numbered (suc n) file bs
 abbrev pub test : List Bool → ℕ → Bool
 test bs i = getD bs i false
 
-some-none : {C : Type 0} (r : Refused) → some r ≡ none → C
-some-none r e = let z : _≡_ {A = ℕ} 0 1 = cc in absurd (omega arith)
-
 some-number : (r q : Refused) → some r ≡ some q → r .number ≡ q .number
 some-number r q e = cc
 
@@ -34,7 +31,7 @@ some-number r q e = cc
 pub first-none : (n file : ℕ) (bs : List Bool) → (first (numbered n file bs) ≡ none) ↔ ((i : ℕ) → test bs i ≡ false)
 unfolding first
 first-none n file [] = (λ e i. refl, λ h. refl)
-first-none n file (true ∷ bs) = (some-none _, λ h. never true refl (h 0))
+first-none n file (true ∷ bs) = (λ e. none-not-some (sym e), λ h. never true refl (h 0))
 first-none n file (false ∷ bs) =
     let later = first-none (suc n) file bs in
     (λ e. elim [ zero ↦ refl | suc i ↦ later .0 e i ], λ h. later .1 (λ i. h (suc i)))
@@ -42,7 +39,7 @@ first-none n file (false ∷ bs) =
 -- no number below the first line's is given
 given-from : (n file : ℕ) (bs : List Bool) (r : Refused) → first (numbered n file bs) ≡ some r → n ≤ r .number
 unfolding first
-given-from n file [] r e = some-none r (sym e)
+given-from n file [] r e = none-not-some e
 given-from n file (true ∷ bs) r e = omega (arith, some-number _ r e)
 given-from n file (false ∷ bs) r e = omega (arith, given-from (suc n) file bs r e)
 
@@ -50,7 +47,7 @@ given-from n file (false ∷ bs) r e = omega (arith, given-from (suc n) file bs 
 pub first-at : (n file : ℕ) (bs : List Bool) (i : ℕ)
     → (first (numbered n file bs) ≡ some (record { number = i + n; file = file })) ↔ ((test bs i ≡ true) × ((j : ℕ) → j < i → test bs j ≡ false))
 unfolding first
-first-at n file [] i = (λ e. some-none _ (sym e), λ h. never false (h .0) refl)
+first-at n file [] i = (λ e. none-not-some e, λ h. never false (h .0) refl)
 first-at n file (true ∷ bs) zero = (λ e. (refl, λ j l. absurd (omega arith)), λ h. rw (zero-add n))
 first-at n file (true ∷ bs) (suc i) = (λ e. absurd (omega (arith, some-number _ _ e)), λ h. never true refl (h .1 0 (omega arith)))
 first-at n file (false ∷ bs) zero = (λ e. absurd (omega (arith, given-from (suc n) file bs _ e)), λ h. never false (h .0) refl)
@@ -65,7 +62,7 @@ first-at n file (false ∷ bs) (suc i) =
 -- lines in front of others
 pub first-before : (ls ms : List Line) (r : Refused) → first ls ≡ some r → first (ls ++ ms) ≡ some r
 unfolding first
-first-before [] ms r e = some-none r (sym e)
+first-before [] ms r e = none-not-some e
 first-before (l ∷ ls) ms r e =
     case (l .applies) (λ h. rw (h, first) (rw (h, first) at e)) (λ h. rw (h, first) (first-before ls ms r (rw (h, first) at e)))
 
@@ -73,7 +70,27 @@ pub first-behind : (ls ms : List Line) → first ls ≡ none → first (ls ++ ms
 unfolding first
 first-behind [] ms e = refl
 first-behind (l ∷ ls) ms e =
-    case (l .applies) (λ h. some-none (l .gives) (rw (h, first) at e)) (λ h. rw (h, first) (first-behind ls ms (rw (h, first) at e)))
+    case (l .applies) (λ h. none-not-some (sym (rw (h, first) at e))) (λ h. rw (h, first) (first-behind ls ms (rw (h, first) at e)))
+
+-- no line of a list applies where none of its parts does
+pub none-of-nil : first [] ≡ none
+unfolding first
+none-of-nil = refl
+
+pub none-of-cons : (number file : ℕ) (b : Bool) (ls : List Line) → first (line number file b ∷ ls) ≡ none → (b ≡ false) × (first ls ≡ none)
+unfolding first
+none-of-cons number file true ls e = none-not-some (sym e)
+none-of-cons number file false ls e = (refl, e)
+
+pub none-for-cons : (number file : ℕ) (b : Bool) (ls : List Line) → b ≡ false → first ls ≡ none → first (line number file b ∷ ls) ≡ none
+unfolding first
+none-for-cons number file b ls e h = rw (e, first) h
+
+pub none-of-both : (ls ms : List Line) → first (ls ++ ms) ≡ none → (first ls ≡ none) × (first ms ≡ none)
+none-of-both ls ms e =
+    option-case (first ls)
+    (λ h. (h, sym (first-behind ls ms h) ∙ e))
+    (λ r h. none-not-some (sym e ∙ first-before ls ms r h))
 
 -- the tests of the table's lines 1 to 6
 abbrev pub fileTests : List ℕ → List Bool
@@ -88,10 +105,10 @@ graph-refusal g r e = let z : _≡_ {A = ℕ} 0 1 = cc in absurd (omega arith)
 
 or-graph : (o : Option Refused) (g h : Graph) → (orGraph o g ≡ graph h) ↔ ((o ≡ none) × (g ≡ h))
 or-graph none g h = (λ e. (refl, cc), λ p. rw (p .1))
-or-graph (some r) g h = (λ e. graph-refusal h r (sym e), λ p. some-none r (p .0))
+or-graph (some r) g h = (λ e. graph-refusal h r (sym e), λ p. none-not-some (sym (p .0)))
 
 or-refusal : (o : Option Refused) (g : Graph) (r : Refused) → (orGraph o g ≡ refusal r) ↔ (o ≡ some r)
-or-refusal none g r = (graph-refusal g r, λ e. some-none r (sym e))
+or-refusal none g r = (graph-refusal g r, none-not-some)
 or-refusal (some q) g r = (λ e. cc, λ e. cc)
 
 module _ (file : ℕ) (s : List ℕ) where

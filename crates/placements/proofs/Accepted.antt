@@ -1,24 +1,17 @@
 -- From an accepted record only accepted ones follow, and a map that is found is a whole accepted path, and so a placement.
-use Prim.Native.Nat.{ℕ, suc, _-_}
-use mathlib.Core.Bool.{true, false, _&&_}
+use Prim.Native.Nat.{ℕ}
+use mathlib.Core.Bool.{true, false}
 use mathlib.Core.List.{List, [], _∷_}
-use mathlib.Core.Option.{Option, none, some}
 use mathlib.Core.Path.{_≡_, refl}
-use native.Mathlib.Omega.{arith}
-use lib.Dec.{leb}
 use lib.ListN.{length}
 use borrow.Author.Tests.{le-leb}
-use Rattle.lists.specs.Lists.{from, keep}
-use Rattle.lists.proofs.Tests.{case, option-case, never, and-intro, and-left, and-right}
-use Rattle.lists.proofs.Laws.{member-keep, member-from}
+use Rattle.lists.proofs.Tests.{case, option-case, never, and-intro}
 use Rattle.packed.specs.Graph.{nodes}
 use Rattle.rules.specs.Task.{Task}
-use Rattle.rules.specs.Marks.{Candidate, nextFrom}
-use Rattle.rules.specs.Search.{Top, Outer, Inner, Unwind, Record, started, pairsOf, candidateAt, innerOr, onward, accepts, above, raised, step, continue, offered, acceptedPath, topOffered, acceptedRecord}
+use Rattle.rules.specs.Search.{Top, Outer, Inner, Unwind, Record, started, candidateAt, onward, accepts, above, raised, step, continue, acceptedPath, topOffered, acceptedRecord}
 use Rattle.placements.specs.Listed.{whole}
 use Rattle.placements.specs.Claims.{Sound, AcceptedStays, EveryMapPlaces}
-use Rattle.placements.proofs.Candidates.{inList₀, head-member, candidate-node₀, offered-by}
-use Rattle.rules.proofs.Stays.{path-joined, path-last}
+use Rattle.rules.proofs.Stays.{record-passes, outer-offered, onward-offered, path-joined, path-last}
 use Rattle.placements.proofs.Paths.{accepted-nil, depth₀, depth₁}
 use Rattle.placements.proofs.Placed.{path-places}
 use Rattle.placements.proofs.Steps.{step-candidate, step-none, step-taken, step-over, step-passed, step-left, step-end, run-keeps, run-found}
@@ -37,53 +30,26 @@ module _ (t : Task) where
       (and-intro (g .path-accepted) (g .top-offered)))
 
   pub accepted-good : (r : Record) → acceptedRecord t r ≡ true → Good r
-  unfolding acceptedRecord
   accepted-good r e =
-      let f : (acceptedPath t (r .path) && topOffered t (r .path) (r .top)) ≡ true =
-      and-right (leb (length (r .path)) (nodes (t .graph₁))) _ (and-right (leb (length (r .path)) (nodes (t .graph₀))) _ e) in
-      record { path-accepted = and-left (acceptedPath t (r .path)) _ f; top-offered = and-right (acceptedPath t (r .path)) _ f }
-
-  -- the next node of the list is offered
-  inner-offered : (path : List ℕ) (o : Option ℕ) → ((x : ℕ) → o ≡ some x → offered t path x ≡ true) → topOffered t path (innerOr o) ≡ true
-  inner-offered path none h = refl
-  inner-offered path (some x) h = h x refl
-
-  next-offered : (path : List ℕ) (c : Candidate) (x y : ℕ) → candidateAt t path ≡ some c → nextFrom t (pairsOf t path) (c .list) x ≡ some y
-      → offered t path y ≡ true
-  unfolding nextFrom
-  next-offered path c x y e h =
-      let p = inList₀ t (pairsOf t path) (c .list) in
-      let n = nodes (t .graph₀) in
-      let w = member-keep p y (from (suc x) (n - suc x)) (head-member (keep p (from (suc x) (n - suc x))) y h) in
-      let i = member-from (n - suc x) (suc x) y (w .1) in
-      offered-by t path c y e (omega arith) (w .0)
-
-  pub onward-offered : (path : List ℕ) (x : ℕ) → topOffered t path (onward t path x) ≡ true
-  unfolding onward
-  onward-offered path x =
-      option-case (candidateAt t path)
-      (λ e. rw e)
-      (λ c e. rw e (inner-offered path (nextFrom t (pairsOf t path) (c .list) x) (λ y h. next-offered path c x y e h)))
+      let p = record-passes t r e in
+      record { path-accepted = p .path-accepted; top-offered = p .top-offered }
 
   step-good : (path : List ℕ) (top : Top) (k : ℕ) → Good (record { path = path; top = top; accepted = k }) → Good (step t path top k .0)
   step-good path Outer k g =
       option-case (candidateAt t path)
       (λ e. rw (step-none t path k e) (record { path-accepted = g .path-accepted; top-offered = refl }))
-      (λ c e.
-      let w = candidate-node₀ t (pairsOf t path) c e in
-      rw (step-candidate t path k c e)
-      (record { path-accepted = g .path-accepted; top-offered = offered-by t path c (c .node₀) e (w .1) (w .0) }))
+      (λ c e. rw (step-candidate t path k c e) (record { path-accepted = g .path-accepted; top-offered = outer-offered t path c e }))
   step-good path (Inner x) k g =
       case (accepts t path x)
       (λ e. case (above (t .settings .limit) (raised k))
       (λ f. rw (step-over t path x k e f) (record { path-accepted = g .path-accepted; top-offered = g .top-offered }))
       (λ f. rw (step-taken t path x k e f)
       (record { path-accepted = path-joined t x path (g .path-accepted) (g .top-offered) e; top-offered = refl })))
-      (λ e. rw (step-passed t path x k e) (record { path-accepted = g .path-accepted; top-offered = onward-offered path x }))
+      (λ e. rw (step-passed t path x k e) (record { path-accepted = g .path-accepted; top-offered = onward-offered t path x }))
   step-good [] Unwind k g = rw (step-end t k) (record { path-accepted = g .path-accepted; top-offered = refl })
   step-good (x ∷ path) Unwind k g =
       rw (step-left t path x k)
-      (record { path-accepted = path-last t x path (g .path-accepted) .0; top-offered = onward-offered path x })
+      (record { path-accepted = path-last t x path (g .path-accepted) .0; top-offered = onward-offered t path x })
 
   pub steps-keep-good : (r : Record) → Good r → Good (step t (r .path) (r .top) (r .accepted) .0)
   steps-keep-good r g =

@@ -4,20 +4,15 @@ use Prim.Native.Nat.{ℕ, _<_}
 use mathlib.Core.Bool.{Bool, true, false, _||_}
 use mathlib.Core.List.{List, [], _∷_}
 use mathlib.Core.Option.{some}
-use mathlib.Core.Path.{_≡_, refl, sym, _∙_, ap}
-use native.Mathlib.Omega.{arith}
+use mathlib.Core.Path.{_≡_, refl, sym, _∙_}
 use lib.Dec.{eqb, ltb}
 use borrow.Author.Tests.{eqb-true, ltb-true, lt-ltb}
 use Rattle.lists.specs.Lists.{member}
-use Rattle.lists.proofs.Tests.{case, never}
+use Rattle.lists.proofs.Tests.{case, never, none-not-some}
 use Rattle.lists.proofs.Laws.{any-nil, any-cons, member-nil, member-head, member-tail, member-cases}
 use Rattle.rules.specs.Task.{Pairs, exchanged, mapped, partner}
 use Rattle.rules.specs.Marks.{follows}
 use Rattle.rules.proofs.Laws.{partner-nil, partner-own, partner-other}
-
-pub exchanged-twice : (ps : Pairs) → exchanged (exchanged ps) ≡ ps
-exchanged-twice [] = refl
-exchanged-twice (p ∷ ps) = ap (λ l. p ∷ l) (exchanged-twice ps)
 
 pub follows-nil : (edges : ℕ → ℕ → ℕ) (x : ℕ) → follows edges [] x ≡ false
 unfolding follows
@@ -47,7 +42,7 @@ along-exchanged R [] o = tt
 along-exchanged R (p ∷ ps) o = (o .0, along-exchanged R ps (o .1))
 
 pub partner-along : (R : ℕ → ℕ → Type 0) (ps : Pairs) → Along R ps → (x y : ℕ) → partner ps x ≡ some y → R x y
-partner-along R [] o x y e = absurd (let z : _≡_ {A = ℕ} 0 1 = cc (partner-nil x) in omega arith)
+partner-along R [] o x y e = none-not-some (sym (partner-nil x) ∙ e)
 partner-along R (p ∷ ps) o x y e =
     case (eqb x (p .0))
     (λ h.

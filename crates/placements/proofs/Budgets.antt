@@ -1,13 +1,13 @@
 -- A budget bounds the steps of its call, and a call that pauses has made them all: what the next call does is what this one would
 -- have done with a larger budget.
-use Prim.Native.Nat.{ℕ, zero, suc, _+_, _≤_}
+use Prim.Native.Nat.{ℕ, zero, suc, _+_}
 use mathlib.Core.Path.{_≡_, refl, _∙_, ap}
 use native.Mathlib.Omega.{arith}
 use Rattle.lists.proofs.Tests.{case, option-case}
 use Rattle.rules.specs.Task.{Task}
 use Rattle.rules.specs.Search.{Record, step, Found, Paused, stops, Went, run, continue}
 use Rattle.placements.specs.Claims.{Budgets}
-use Rattle.rules.proofs.Runs.{run-stops, run-pauses, run-finds, run-goes-on}
+use Rattle.rules.proofs.Runs.{run-stops, run-pauses, run-finds, run-goes-on, run-within}
 use Rattle.placements.proofs.Steps.{stops-not-paused}
 
 module _ (t : Task) where
@@ -36,16 +36,6 @@ module _ (t : Task) where
       rw (run-goes-on t b (n + m) r e f, run-goes-on t b m r e f, same) (later b n (suc m) (stepped r))))
       (λ a e. rw (run-stops t (suc b) (n + m) r a e, run-stops t (suc b) m r a e)
       (record { same-answer = refl; more-steps = refl; same-record = refl }))
-
-  run-within : (b n : ℕ) (r : Record) → run t b n r .steps ≤ n + b
-  run-within zero n r =
-      option-case (stops t r) (λ e. rw (run-pauses t n r e) (omega arith)) (λ a e. rw (run-stops t 0 n r a e) (omega arith))
-  run-within (suc b) n r =
-      option-case (stops t r)
-      (λ e. case (step t (r .path) (r .top) (r .accepted) .1)
-      (λ f. rw (run-finds t b n r e f) (omega arith))
-      (λ f. rw (run-goes-on t b n r e f) (omega (arith, run-within b (suc n) (stepped r)))))
-      (λ a e. rw (run-stops t (suc b) n r a e) (omega arith))
 
   run-used : (b n : ℕ) (r : Record) → run t b n r .answer ≡ Paused → run t b n r .steps ≡ n + b
   run-used zero n r p =
@@ -79,7 +69,7 @@ module _ (t : Task) where
   pub budgets : Budgets t
   budgets =
       record {
-        within = λ b r. omega (arith, run-within b 0 r);
+        within = λ b r. omega (arith, run-within t b 0 r);
         paused-used = λ b r p. omega (arith, run-used b 0 r p);
         goes-on = λ b m r p.
             let same : 0 + b ≡ b + 0 = omega arith in

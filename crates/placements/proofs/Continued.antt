@@ -3,17 +3,17 @@
 use Prim.Native.Nat.{ℕ, zero, suc, _+_, _≤_, _<_, min}
 use mathlib.Core.Bool.{true, false}
 use mathlib.Core.List.{List, [], _∷_, _++_, append-nil, append-assoc}
-use mathlib.Core.Option.{none, some}
+use mathlib.Core.Option.{some}
 use mathlib.Core.Path.{_≡_, refl, sym, _∙_, ap}
 use native.Mathlib.Omega.{arith}
 use lib.Dec.{ltb}
 use borrow.Author.Tests.{ltb-true, ltb-false}
 use Rattle.lists.proofs.Tests.{case, option-case, never}
 use Rattle.rules.specs.Task.{Task, countsAgree}
-use Rattle.rules.specs.Search.{Top, Outer, Inner, Unwind, Record, above, raised, step, Found, None, Limit, Paused, isEnd, stops, Went, run}
+use Rattle.rules.specs.Search.{Top, Outer, Inner, Unwind, Record, above, raised, step, Found, None, Limit, Paused, isEnd, Went, run}
 use Rattle.placements.specs.Listed.{listed, stepsOf, acceptedOf}
 use Rattle.placements.specs.Claims.{LimitMost}
-use Rattle.rules.proofs.Runs.{run-stops, run-pauses, run-finds, run-goes-on}
+use Rattle.rules.proofs.Runs.{run-stops, run-pauses, run-finds, run-goes-on, stops-ended, stops-limited, stops-nowhere}
 use Rattle.placements.proofs.Steps.{step-candidate, step-none, step-taken, step-over, step-passed, step-left}
 use Rattle.placements.proofs.Searched.{Search, nothing, opened, closed, found, taken, passed, left, retold, then}
 
@@ -201,16 +201,6 @@ module _ (t : Task) where
     ran-later b n done s w (ran-paused a s′ c x e l) = ran-paused a s′ c x (omega arith) (omega arith)
 
     module _ (agreed : countsAgree t ≡ true) where
-      stops-at-end : (r : Record) → r .path ≡ [] → r .top ≡ Unwind → stops t r ≡ some None
-      stops-at-end r e f = rw (agreed, e, f)
-
-      stops-over : (r : Record) → isEnd (r .path) (r .top) ≡ false → above (t .settings .limit) (r .accepted) ≡ true
-          → stops t r ≡ some Limit
-      stops-over r e f = rw (agreed, e, f)
-
-      stops-not : (r : Record) → isEnd (r .path) (r .top) ≡ false → above (t .settings .limit) (r .accepted) ≡ false → stops t r ≡ none
-      stops-not r e f = rw (agreed, e, f)
-
       -- a call at a point, where what a smaller budget comes to after a step is known
       abbrev Onward : ℕ → ℕ → Record → List (List ℕ) → ℕ → Type 0
       Onward b n r done s =
@@ -221,11 +211,11 @@ module _ (t : Task) where
         run-end : (b : ℕ) → r .path ≡ [] → r .top ≡ Unwind → s ≡ stepsOf t → c ≡ acceptedOf t → done ≡ listed t
             → Ran b n done s (run t b n r)
         run-end b e f x y z =
-            rw (run-stops t b n r None (stops-at-end r e f))
+            rw (run-stops t b n r None (stops-ended t r agreed (rw (e, f))))
             (ran-none refl (omega arith) z e f (p .counted ∙ ap (λ k. min k 4294967295) y) (p .within))
 
         run-used : isEnd (r .path) (r .top) ≡ false → Ran 0 n done s (run t 0 n r)
-        run-used e = rw (run-pauses t n r (stops-not r e (p .within))) (ran-paused refl s c p (omega arith) (omega arith))
+        run-used e = rw (run-pauses t n r (stops-nowhere t r agreed e (p .within))) (ran-paused refl s c p (omega arith) (omega arith))
 
         run-none : Advance r done s c → Ran 0 n done s (run t 0 n r)
         run-none (at-end e f x y z) = run-end 0 e f x y z
@@ -236,13 +226,13 @@ module _ (t : Task) where
         run-some : (b : ℕ) → Onward b n r done s → Advance r done s c → Ran (suc b) n done s (run t (suc b) n r)
         run-some b on (at-end e f x y z) = run-end (suc b) e f x y z
         run-some b on (finds e f q) =
-            rw (run-finds t b n r (stops-not r e (p .within)) f) (ran-found refl (suc s) c q (omega arith) (omega arith))
+            rw (run-finds t b n r (stops-nowhere t r agreed e (p .within)) f) (ran-found refl (suc s) c q (omega arith) (omega arith))
         run-some b on (moves e f c′ q) =
-            rw (run-goes-on t b n r (stops-not r e (p .within)) f)
+            rw (run-goes-on t b n r (stops-nowhere t r agreed e (p .within)) f)
             (ran-later b n done s (run t b (suc n) (step t (r .path) (r .top) (r .accepted) .0)) (on c′ q))
         run-some b on (exceeds e f g q) =
             let next = step t (r .path) (r .top) (r .accepted) .0 in
-            rw (run-goes-on t b n r (stops-not r e (p .within)) f, run-stops t b (suc n) next Limit (stops-over next g (q .over)))
+            rw (run-goes-on t b n r (stops-nowhere t r agreed e (p .within)) f, run-stops t b (suc n) next Limit (stops-limited t next agreed g (q .over)))
             (ran-limit refl (suc s) (suc c) q (omega arith))
 
       pub run-from : (b n : ℕ) (r : Record) (done : List (List ℕ)) (s c : ℕ) → Point r done s c → Ran b n done s (run t b n r)

@@ -9,7 +9,7 @@ use lib.Dec.{eqb, ltb}
 use lib.ListN.{length}
 use borrow.Author.Tests.{ltb-false}
 use Rattle.lists.specs.Lists.{from}
-use Rattle.lists.proofs.Tests.{case}
+use Rattle.lists.proofs.Tests.{case, none-not-some, never}
 use Rattle.lists.proofs.Laws.{from-none, from-suc}
 use Rattle.bits.proofs.Laws.{field-below}
 use Rattle.packed.specs.Graph.{Edge, Graph}
@@ -38,7 +38,7 @@ files-ensure bytes₀ bytes₁ g₀ g₁ e f k =
     record { accepted₀ = file-accepted 0 bytes₀ g₀ e; accepted₁ = file-accepted 1 bytes₁ g₁ f; same-kind = k }
 
 or-none : (a b : Bool) → (a || b) ≡ false → (a ≡ false) × (b ≡ false)
-or-none true b e = (e, absurd (let z : _≡_ {A = ℕ} 0 1 = cc in omega arith))
+or-none true b e = never true refl e
 or-none false b e = (refl, e)
 
 pub settings-ensure : SettingsEnsure
@@ -50,4 +50,4 @@ settings-ensure bytes limit e h =
     let most = ltb-false 4294967294 (limitField bytes) (or-none (ltb 4294967294 (limitField bytes)) _ last .0) in
     case (limited bytes)
     (λ l. let same : some (limitField bytes) ≡ some limit = rw l at h in let z : limitField bytes ≡ limit = cc in omega arith)
-    (λ l. let same : none ≡ some limit = rw l at h in absurd (let z : _≡_ {A = ℕ} 0 1 = cc in omega arith))
+    (λ l. let same : none ≡ some limit = rw l at h in none-not-some same)

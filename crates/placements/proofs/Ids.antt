@@ -3,7 +3,7 @@
 use Prim.Native.Nat.{ℕ, zero, suc, _<_}
 use native.Mathlib.Nat.{le-refl}
 use mathlib.Core.Bool.{Bool, true, false}
-use mathlib.Core.List.{List, [], _∷_, map}
+use mathlib.Core.List.{List, [], _∷_, map, map-map}
 use mathlib.Core.Path.{_≡_, refl, sym, _∙_, ap}
 use native.Mathlib.Omega.{arith}
 use lib.Dec.{eqb}
@@ -32,10 +32,6 @@ use Rattle.placements.proofs.Listing.{all-placed, each-map}
 pub map-shows : (t : Task) → MapShows t
 unfolding mapOf
 map-shows t path = refl
-
-map-map : {A B C : Type 0} (f : A → B) (g : B → C) (l : List A) → map g (map f l) ≡ map (λ x. g (f x)) l
-map-map f g [] = refl
-map-map f g (x ∷ l) = ap (λ r. g (f x) ∷ r) (map-map f g l)
 
 -- f at a list's elements is f at what stands at its places
 shifted : {A : Type 0} (f : ℕ → A) (k i : ℕ) → map (λ j. f (suc j)) (from i k) ≡ map f (from (suc i) k)
@@ -74,7 +70,7 @@ module _ (s : Settings) (g₀ g₁ : Graph) (files : OfOneKind g₀ g₁) where
       let pair : ℕ → ℕ × ℕ = λ v. (idImage s g₀ g₁ path v, v) in
       let long : length order₁ ≡ nodes (t .graph₁) = order-holds-each-once (s .vf2pp) g₁ .0 ∙ sym same-size in
       rw (map-shows t path)
-      (map-map (λ w. (imageIn t path w, w)) (λ p. (getD order₀ (p .0) 0, getD order₁ (p .1) 0)) (from 0 (nodes (t .graph₁)))
+      (map-map (λ p. (getD order₀ (p .0) 0, getD order₁ (p .1) 0)) (λ w. (imageIn t path w, w)) (from 0 (nodes (t .graph₁)))
       ∙ map-from-same (λ w. (getD order₀ (imageIn t path w) 0, getD order₁ w 0)) (λ w. pair (getD order₁ w 0)) (nodes (t .graph₁))
       (λ w l. ap (λ z. (getD order₀ (imageIn t path z) 0, getD order₁ w 0)) (sym (ways₁ .to-back w l)))
       ∙ (rw long at (map-places pair order₁)))

@@ -1,7 +1,7 @@
 -- The edges between two nodes, by label: the labels' numbers add up to the number of all; turned round, the edges from a to b
 -- are those from b to a; undirected, they are the same.
 use Prim.Native.Nat.{ℕ, _+_, _≤_}
-use mathlib.Core.Bool.{Bool, true, false, cond, _&&_, _||_, and-true, and-comm}
+use mathlib.Core.Bool.{Bool, true, false, cond, _&&_, and-true, and-comm, or-comm}
 use mathlib.Core.List.{List, [], _∷_, map}
 use mathlib.Core.Path.{_≡_, refl, sym, _∙_}
 use native.Mathlib.Omega.{arith}
@@ -17,12 +17,6 @@ use Rattle.order.specs.Claims.{labelledBetween}
 use Rattle.rules.specs.Placement.{ofLabel, edgesOf}
 use Rattle.placements.specs.Claims.{LabelsBelow}
 use Rattle.placements.proofs.Sums.{sum, sum-same, sum-add, sum-zero, sum-one}
-
-or-comm : (a b : Bool) → (a || b) ≡ (b || a)
-or-comm true true = refl
-or-comm true false = refl
-or-comm false true = refl
-or-comm false false = refl
 
 joins-turned : (directed : Bool) (a b : ℕ) (e : Edge) → joins directed a b (turn e) ≡ joins directed b a e
 joins-turned directed a b e =

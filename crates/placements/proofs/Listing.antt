@@ -9,7 +9,7 @@ use native.Mathlib.Omega.{arith}
 use lib.Dec.{ltb}
 use lib.ListN.{length}
 use borrow.Author.Tests.{ltb-true, ltb-false, lt-ltb, le-ltb}
-use Rattle.lists.proofs.Tests.{case}
+use Rattle.lists.proofs.Tests.{case, none-not-some}
 use Rattle.rules.specs.Task.{Task, countsAgree}
 use Rattle.rules.specs.Search.{Top, Outer, Inner, Record, started, above, Answer, None, Limit}
 use Rattle.placements.specs.Listed.{whole, listed, stepsOf, acceptedOf}
@@ -36,9 +36,6 @@ pub all-placed : (t : Task) → Sound t → Each (λ path. (whole t path ≡ tru
 all-placed t sound =
     each-map (Map t) (λ path. (whole t path ≡ true) × Places t (imageIn t path)) (listed t)
     (λ path m. (m .map-whole, path-places t sound path (m .map-accepted) (m .map-whole))) (listed-maps t)
-
-none-some : {A C : Type 0} (o : Option A) (x : A) → o ≡ none → o ≡ some x → C
-none-some o x e f = absurd (let z : _≡_ {A = ℕ} 0 1 = cc in omega arith)
 
 none-limit : {C : Type 0} (t : Task) (o : Option (Answer)) → o ≡ some None → o ≡ some Limit → C
 none-limit t o e f = absurd (let z : _≡_ {A = ℕ} 0 1 = cc in omega arith)
@@ -136,14 +133,14 @@ module _ (t : Task) where
 
   alike : LimitMost t → (budgets others : List ℕ) (w v : Called t) → Ends t budgets [] 0 w → Ends t others [] 0 v
       → (a b : Answer) → w .ending ≡ some a → v .ending ≡ some b → w ≡ v
-  alike most budgets others w v (ends-open o s c p e h) y a b i j = none-some (w .ending) a o i
-  alike most budgets others w v (ends-none o d e p q k l) (ends-open x s c y z h) a b i j = none-some (v .ending) b x j
+  alike most budgets others w v (ends-open o s c p e h) y a b i j = none-not-some (sym o ∙ i)
+  alike most budgets others w v (ends-none o d e p q k l) (ends-open x s c y z h) a b i j = none-not-some (sym x ∙ j)
   alike most budgets others w v (ends-none o d e p q k l) (ends-none o′ d′ e′ p′ q′ k′ l′) a b i j =
       same-called w v (d ∙ sym d′) (omega arith) (o ∙ sym o′) (p ∙ sym p′) (q ∙ sym q′) (k ∙ sym k′)
   alike most budgets others w v (ends-none o d e p q k l) (ends-limit x s c y z) a b i j =
       absurd (omega
       (arith, within-limit (y .limit) (acceptedOf t) (y .limited) (most (y .limit) (y .limited)) (rw k at l), y .pairs-most, y .pair-here))
-  alike most budgets others w v (ends-limit x s c y z) (ends-open o s′ c′ p e h) a b i j = none-some (v .ending) b o j
+  alike most budgets others w v (ends-limit x s c y z) (ends-open o s′ c′ p e h) a b i j = none-not-some (sym o ∙ j)
   alike most budgets others w v (ends-limit x s c y z) (ends-none o d e p q k l) a b i j =
       absurd (omega
       (arith, within-limit (y .limit) (acceptedOf t) (y .limited) (most (y .limit) (y .limited)) (rw k at l), y .pairs-most, y .pair-here))
@@ -159,20 +156,20 @@ module _ (t : Task) where
     open-until (ends-limit o s c p e) one more f g = g o
 
     whole-none : Ends t budgets [] 0 w → w .ending ≡ some None → (w .maps ≡ listed t) × (w .steps ≡ stepsOf t)
-    whole-none (ends-open o s c p e h) i = none-some (w .ending) None o i
+    whole-none (ends-open o s c p e h) i = none-not-some (sym o ∙ i)
     whole-none (ends-none o d e p q k l) i = (d, omega arith)
     whole-none (ends-limit o s c p e) i = none-limit t (w .ending) i o
 
     free-ending : t .settings .limit ≡ none → Ends t budgets [] 0 w → (a : Answer) → w .ending ≡ some a
         → (a ≡ None) × (w .maps ≡ listed t) × (w .steps ≡ stepsOf t)
-    free-ending free (ends-open o s c p e h) a i = none-some (w .ending) a o i
+    free-ending free (ends-open o s c p e h) a i = none-not-some (sym o ∙ i)
     free-ending free (ends-none o d e p q k l) a i = (cc, d, omega arith)
-    free-ending free (ends-limit o s c p e) a i = none-some (t .settings .limit) (p .limit) free (p .limited)
+    free-ending free (ends-limit o s c p e) a i = none-not-some (sym free ∙ p .limited)
 
     module _ (limit : ℕ) (limited : t .settings .limit ≡ some limit) (most : limit ≤ 4294967294) where
       cut-limit : Ends t budgets [] 0 w → w .ending ≡ some Limit
           → (s : ℕ) × (w .steps ≡ suc s) × (acceptedIn (unlimited t) s started ≡ limit) × (acceptedIn (unlimited t) (suc s) started ≡ suc limit)
-      cut-limit (ends-open o s c p e h) i = none-some (w .ending) Limit o i
+      cut-limit (ends-open o s c p e h) i = none-not-some (sym o ∙ i)
       cut-limit (ends-none o d e p q k l) i = none-limit t (w .ending) o i
       cut-limit (ends-limit o s c p e) i =
           let same = same-limit (p .limited) limited in
@@ -185,7 +182,7 @@ module _ (t : Task) where
           )
 
       limited-ending : Ends t budgets [] 0 w → (a : Answer) → w .ending ≡ some a → a ≡ cond (ltb limit (acceptedOf t)) Limit None
-      limited-ending (ends-open o s c p e h) a i = none-some (w .ending) a o i
+      limited-ending (ends-open o s c p e h) a i = none-not-some (sym o ∙ i)
       limited-ending (ends-none o d e p q k l) a i =
           let z : a ≡ None = cc in
           z ∙ sym (rw (le-ltb limit (acceptedOf t) (within-limit limit (acceptedOf t) limited most (rw k at l))))
@@ -231,7 +228,7 @@ module _ (t : Task) (agreed : countsAgree t ≡ true) (most : LimitMost t) where
 
 pub listing : (t : Task) → Sound t → countsAgree t ≡ true → t .settings .limit ≡ none → Listing t
 listing t sound agreed free =
-    let most : LimitMost t = λ limit e. none-some (t .settings .limit) limit free e in
+    let most : LimitMost t = λ limit e. none-not-some (sym free ∙ e) in
     let whole : (budgets : List ℕ) (a : Answer) → calls t budgets started .ending ≡ some a
     → (a ≡ None) × (calls t budgets started .maps ≡ listed t) × (calls t budgets started .steps ≡ stepsOf t) =
     λ budgets. free-ending t budgets (calls t budgets started) free (calls-end t most agreed budgets) in

@@ -1,14 +1,14 @@
 -- The listing holds whole accepted paths only, and each placement once: at a path that lies along the placement exactly one node
 -- that is tried lies along it too, it is acceptable, and no other path leads there.
 use Prim.Native.Nat.{ℕ, zero, suc, _+_, _≤_, _<_}
-use mathlib.Core.Bool.{Bool, true, false, cond, _&&_, not}
+use mathlib.Core.Bool.{Bool, true, false, cond, _&&_}
 use mathlib.Core.List.{List, [], _∷_, _++_, nil≢cons}
 use mathlib.Core.Option.{some}
 use mathlib.Core.Path.{_≡_, refl, sym, _∙_, ap}
 use native.Mathlib.Omega.{arith}
 use lib.Dec.{eqb}
 use lib.ListN.{length}
-use borrow.Author.Tests.{eqb-true, eqb-false, eq-eqb}
+use borrow.Author.Tests.{eqb-true, eqb-false, eq-eqb, not-false}
 use Rattle.lists.specs.Lists.{from, count, keep, member}
 use Rattle.lists.proofs.Tests.{case, option-case, never, and-intro, and-left, and-right, false-by, by-iff}
 use Rattle.lists.proofs.Laws.{from-length, count-nil, count-cons, count-append, keep-nil, keep-true, keep-false, member-head, member-tail, member-from}
@@ -24,9 +24,9 @@ use Rattle.placements.proofs.Sums.{count-only}
 use Rattle.placements.proofs.Tests.{all-intro, all-elim}
 use Rattle.placements.proofs.Along.{Along, along-exchanged, Flipped, partner-along}
 use Rattle.placements.proofs.Passes.{OnImage, placed-alike, placed-in-list, placed-acceptable}
-use Rattle.placements.proofs.Candidates.{candidate-node₁, candidate-none, offered-cases, offered-by}
-use Rattle.rules.proofs.Stays.{pairs-cons, pairs-nil, partners-distinct, path-joined, path-last}
-use Rattle.placements.proofs.Paths.{long₁, accepted-nil, depth₁, tried-offered, tried-none, no-candidate, whole-at}
+use Rattle.placements.proofs.Candidates.{candidate-none}
+use Rattle.rules.proofs.Stays.{candidate-offers, offered-in-list, in-list-offered, pairs-cons, pairs-nil, exchanged-length, partners-distinct, path-joined, path-last}
+use Rattle.placements.proofs.Paths.{accepted-nil, depth₁, tried-offered, tried-none, no-candidate, whole-at}
 use Rattle.placements.proofs.Placed.{partner-mapped, image}
 use Rattle.placements.proofs.Searched.{joined-nil, joined-cons, mapsAt, maps-last, maps-more}
 
@@ -136,8 +136,8 @@ module _ (t : Task) where
         rw (pairs-cons t x path) (
           (
             lies-image x path e,
-            offered-cases t path x (path-last t x path a .1)
-                (λ c h l i. rw h (candidate-node₁ t (pairsOf t path) c h .1)),
+            let i = offered-in-list t path x (path-last t x path a .1) in
+                rw (i .is) (candidate-offers t (pairsOf t path) (i .candidate′) (i .is) .less₁),
           ),
           lies-along path (path-last t x path a .0) (lies-shorter x path e),
         )
@@ -189,7 +189,7 @@ module _ (t : Task) where
           λ h. omega (
             arith,
             depth₁ t path a,
-            long₁ t path,
+            exchanged-length t path,
             from-length 0 n,
             distinct-among n (from 0 n) us (distinct-from n n 0 (omega arith)) (partners-distinct t path a)
                 (λ v m. let i = member-from n 0 v m in h v (omega arith)),
@@ -197,22 +197,18 @@ module _ (t : Task) where
           option-case (candidateAt t path)
           (λ h. candidate-none t ps h
           (λ none-left. absurd (full (λ x l.
-          sym (placed-alike t φ sound agreed p ps (lies-along path a e) x l) ∙ not-not (member (φ x) (mapped ps))
+          sym (placed-alike t φ sound agreed p ps (lies-along path a e) x l) ∙ not-false (member (φ x) (mapped ps))
           (none-left (φ x) (p .within x l)))))
-          (λ none-left. absurd (full (λ x l. not-not (member x us) (none-left x l)))))
+          (λ none-left. absurd (full (λ x l. not-false (member x us) (none-left x l)))))
           f
-        where
-          not-not : (b : Bool) → not b ≡ false → b ≡ true
-          not-not true h = refl
-          not-not false h = sym h
 
       -- the image of the candidate's node is tried
       image-tried : (path : List ℕ) → acceptedPath t path ≡ true → lies path ≡ true → (c : Candidate) → candidateAt t path ≡ some c
           → offered t path (φ (c .node₁)) ≡ true
       image-tried path a e c h =
-          let w = candidate-node₁ t (pairsOf t path) c h in
-          offered-by t path c (φ (c .node₁)) h (p .within (c .node₁) (w .1))
-          (placed-in-list t φ sound agreed p (pairsOf t path) (lies-along path a e) (c .list) (c .node₁) (w .1) (w .0))
+          let w = candidate-offers t (pairsOf t path) c h in
+          in-list-offered t path c (φ (c .node₁)) h (p .within (c .node₁) (w .less₁))
+          (placed-in-list t φ sound agreed p (pairsOf t path) (lies-along path a e) (c .list) (c .node₁) (w .less₁) (w .listed₁))
 
       one-tried : (path : List ℕ) → acceptedPath t path ≡ true → lies path ≡ true → whole t path ≡ false
           → count (λ x. lies (x ∷ path)) (tried t path) ≡ 1
@@ -224,7 +220,7 @@ module _ (t : Task) where
           let named : nodeOf (candidateAt t path) ≡ c .node₁ = rw h in
           count-keep (offered t path) (λ x. lies (x ∷ path)) (from 0 (nodes (t .graph₀)))
           ∙ count-only (λ x. lies (x ∷ path) && offered t path x) (nodes (t .graph₀)) y
-          (p .within (c .node₁) (candidate-node₁ t (pairsOf t path) c h .1))
+          (p .within (c .node₁) (candidate-offers t (pairsOf t path) c h .less₁))
           (and-intro (lies-cons y path ∙ and-intro (eq-eqb y (φ (nodeOf (candidateAt t path))) (ap φ (sym named))) e)
           (image-tried path a e c h))
           (λ x f. lies-image x path (and-left (lies (x ∷ path)) (offered t path x) f) ∙ ap φ named))
@@ -234,13 +230,15 @@ module _ (t : Task) where
           → accepts t path x ≡ true
       unfolding accepts
       image-accepted path x a o e =
-          offered-cases t path x o
-          (λ c h l i.
-          let named : nodeOf (candidateAt t path) ≡ c .node₁ = rw h in
-          let w = candidate-node₁ t (pairsOf t path) c h in
-          let z : x ≡ φ (c .node₁) = lies-image x path e ∙ ap φ named in
-          rw (named, z)
-          (placed-acceptable t φ sound agreed p (pairsOf t path) (lies-along path a (lies-shorter x path e)) (c .node₁) (w .1)))
+          let found = offered-in-list t path x o in by-candidate (found .candidate′) (found .is)
+        where
+          by-candidate : (c : Candidate) → candidateAt t path ≡ some c → accepts t path x ≡ true
+          by-candidate c h =
+              let named : nodeOf (candidateAt t path) ≡ c .node₁ = rw h in
+              let w = candidate-offers t (pairsOf t path) c h in
+              let z : x ≡ φ (c .node₁) = lies-image x path e ∙ ap φ named in
+              rw (named, z)
+              (placed-acceptable t φ sound agreed p (pairsOf t path) (lies-along path a (lies-shorter x path e)) (c .node₁) (w .less₁))
 
       itself-once : (path : List ℕ) → whole t path ≡ true → count lies (itself t path) ≡ cond (lies path) 1 0
       itself-once path w = rw (w, count-cons lies path [], count-nil lies) (case (lies path) (λ e. rw e) (λ e. rw e))

@@ -8,9 +8,9 @@ use mathlib.Core.Option.{some}
 use mathlib.Core.Path.{_≡_, refl, sym, _∙_}
 use native.Mathlib.Omega.{arith}
 use lib.ListN.{getD}
-use borrow.Author.Tests.{eq-eqb, le-leb}
+use borrow.Author.Tests.{eq-eqb, le-leb, not-true}
 use Rattle.lists.specs.Lists.{from, count, member}
-use Rattle.lists.proofs.Tests.{case, never, and-intro, and-left, and-right, not-true, false-by, by-iff}
+use Rattle.lists.proofs.Tests.{case, never, and-intro, and-left, and-right, false-by, by-iff}
 use Rattle.lists.proofs.Laws.{count-all}
 use Rattle.packed.specs.Graph.{Graph, nodes}
 use Rattle.graph.specs.Walk.{between, walk, turned}
@@ -19,11 +19,12 @@ use Rattle.rules.specs.Task.{Task, agree, countsAgree, Pairs, exchanged, mapped
 use Rattle.rules.specs.Marks.{follows, firstMark, secondMark, OpenList, Out, In, Other, inList}
 use Rattle.rules.specs.Acceptable.{implies, isNew, linked, labelled, ahead, sameLabel, eachWay, feasible, acceptable}
 use Rattle.rules.specs.Placement.{Placement}
+use Rattle.rules.proofs.Laws.{exchanged-twice}
 use Rattle.placements.specs.Claims.{Sound}
 use Rattle.placements.proofs.Sums.{sum, sum-same, Into, Apart, sum-into, sum-onto, count-sum}
 use Rattle.placements.proofs.Kept.{Keeps, keeps, keeps-turned, equal-nodes}
 use Rattle.placements.proofs.Tests.{covers-intro, matches-intro}
-use Rattle.placements.proofs.Along.{Flipped, Along, exchanged-twice, along-exchanged, partner-along, Single, member-along, follows-along}
+use Rattle.placements.proofs.Along.{Flipped, Along, along-exchanged, partner-along, Single, member-along, follows-along}
 
 pub agree-intro : (greater : Bool) (x y : ℕ) → (greater ≡ true → y ≤ x) → (greater ≡ false → x ≡ y) → agree greater x y ≡ true
 agree-intro true x y h k = le-leb y x (h refl)

@@ -1,22 +1,22 @@
 -- Accepted paths: their nodes are distinct in either graph, so that few are left to try, and none on a path that is whole.
-use Prim.Native.Nat.{ℕ, suc, _+_, _≤_}
-use mathlib.Core.Bool.{true, false, _&&_}
+use Prim.Native.Nat.{ℕ, _+_, _≤_}
+use mathlib.Core.Bool.{true, false}
 use mathlib.Core.List.{List, [], _∷_, _++_}
 use mathlib.Core.Option.{none}
-use mathlib.Core.Path.{_≡_, refl, sym, _∙_, ap}
+use mathlib.Core.Path.{_≡_, refl}
 use native.Mathlib.Omega.{arith}
-use lib.ListN.{length, length-map, length-append}
+use lib.ListN.{length, length-append}
 use borrow.Author.Tests.{eq-eqb}
 use Rattle.lists.specs.Lists.{Distinct, from, member}
-use Rattle.lists.proofs.Tests.{option-case, never, and-intro, and-left, and-right}
+use Rattle.lists.proofs.Tests.{option-case}
 use Rattle.lists.proofs.Laws.{keep-from-none, member-head, member-tail, member-append, member-keep}
-use Rattle.lists.proofs.Distinct.{distinct-length, distinct-all, distinct-from, distinct-keep}
+use Rattle.lists.proofs.Distinct.{distinct-length, distinct-from, distinct-keep}
 use Rattle.packed.specs.Graph.{nodes}
-use Rattle.rules.specs.Task.{Task, exchange, exchanged, mapped}
-use Rattle.rules.specs.Search.{pairsOf, candidateAt, nodeOf, accepts, offered, acceptedPath}
-use Rattle.rules.proofs.Stays.{pairs-length, path-distinct, partners-distinct}
+use Rattle.rules.specs.Task.{Task, exchanged, mapped}
+use Rattle.rules.specs.Search.{pairsOf, candidateAt, offered, acceptedPath}
+use Rattle.rules.proofs.Stays.{mapped-length, exchanged-length, offered-in-list, path-distinct, partners-distinct, depth-room}
 use Rattle.placements.specs.Listed.{tried, whole}
-use Rattle.placements.proofs.Candidates.{list-unmapped, candidate-node₁, offered-cases, offered-never}
+use Rattle.placements.proofs.Candidates.{offered-never}
 
 distinct-append : (n : ℕ) (us vs : List ℕ) → Distinct n us → Distinct n vs → ((x : ℕ) → member x us ≡ true → member x vs ≡ false)
     → Distinct n (us ++ vs)
@@ -28,22 +28,16 @@ distinct-append n (u ∷ us) vs d e h = (
 )
 
 module _ (t : Task) where
-  pub long₀ : (path : List ℕ) → length (mapped (pairsOf t path)) ≡ length path
-  long₀ path = length-map (pairsOf t path) (λ p. p .0) ∙ pairs-length t path
-
-  pub long₁ : (path : List ℕ) → length (mapped (exchanged (pairsOf t path))) ≡ length path
-  long₁ path = length-map (exchanged (pairsOf t path)) (λ p. p .0) ∙ length-map (pairsOf t path) exchange ∙ pairs-length t path
-
   pub accepted-nil : acceptedPath t [] ≡ true
   unfolding acceptedPath
   accepted-nil = refl
 
   -- depth at most both node counts
   pub depth₀ : (path : List ℕ) → acceptedPath t path ≡ true → length path ≤ nodes (t .graph₀)
-  depth₀ path e = omega (arith, distinct-length (nodes (t .graph₀)) (mapped (pairsOf t path)) (path-distinct t path e), long₀ path)
+  depth₀ path e = omega (arith, distinct-length (nodes (t .graph₀)) (mapped (pairsOf t path)) (path-distinct t path e), mapped-length t path)
 
   pub depth₁ : (path : List ℕ) → acceptedPath t path ≡ true → length path ≤ nodes (t .graph₁)
-  depth₁ path e = omega (arith, distinct-length (nodes (t .graph₁)) (mapped (exchanged (pairsOf t path))) (partners-distinct t path e), long₁ path)
+  depth₁ path e = omega (arith, distinct-length (nodes (t .graph₁)) (mapped (exchanged (pairsOf t path))) (partners-distinct t path e), exchanged-length t path)
 
   -- what is tried
   pub tried-offered : (path : List ℕ) (x : ℕ) → member x (tried t path) ≡ true → offered t path x ≡ true
@@ -60,13 +54,13 @@ module _ (t : Task) where
   tried-few path e =
       let us = mapped (pairsOf t path) in
       let apart : (x : ℕ) → member x (tried t path) ≡ true → member x us ≡ false =
-      λ x m. offered-cases t path x (tried-offered path x m) (λ c h l i. list-unmapped (t .graph₀) us (c .list) x i) in
+      λ x m. offered-in-list t path x (tried-offered path x m) .unmapped in
       omega (
         arith,
         distinct-length (nodes (t .graph₀)) (tried t path ++ us)
             (distinct-append (nodes (t .graph₀)) (tried t path) us (tried-distinct path) (path-distinct t path e) apart),
         length-append (tried t path) us,
-        long₀ path,
+        mapped-length t path,
       )
 
   pub tried-none : (path : List ℕ) → candidateAt t path ≡ none → tried t path ≡ []
@@ -76,13 +70,7 @@ module _ (t : Task) where
   -- a whole path has no candidate
   pub no-candidate : (path : List ℕ) → acceptedPath t path ≡ true → nodes (t .graph₁) ≤ length path → candidateAt t path ≡ none
   no-candidate path e l =
-      let us = mapped (exchanged (pairsOf t path)) in
-      option-case (candidateAt t path) (λ h. h)
-      (λ c h.
-      let w = candidate-node₁ t (pairsOf t path) c h in
-      never (member (c .node₁) us)
-      (distinct-all (nodes (t .graph₁)) us (partners-distinct t path e) (omega (arith, long₁ path, depth₁ path e)) (c .node₁) (w .1))
-      (list-unmapped (t .graph₁) us (c .list) (c .node₁) (w .0)))
+      option-case (candidateAt t path) (λ h. h) (λ c h. absurd (omega (arith, depth-room t path c e h)))
 
   pub whole-at : (path : List ℕ) → acceptedPath t path ≡ true → nodes (t .graph₁) ≤ length path → whole t path ≡ true
   whole-at path e l = eq-eqb (length path) (nodes (t .graph₁)) (omega (arith, depth₁ path e))

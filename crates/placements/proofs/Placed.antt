@@ -4,14 +4,13 @@ use Prim.Native.Nat.{ℕ, _≤_, _<_}
 use native.Mathlib.Nat.{le-antisymm}
 use mathlib.Core.Bool.{Bool, true, false, _&&_}
 use mathlib.Core.List.{List, [], _∷_}
-use mathlib.Core.Option.{Option, none, some}
+use mathlib.Core.Option.{some}
 use mathlib.Core.Path.{_≡_, refl, sym, _∙_, ap}
-use native.Mathlib.Omega.{arith}
 use lib.Dec.{eqb}
 use lib.ListN.{length, getD}
 use borrow.Author.Tests.{eqb-true, eq-eqb}
 use Rattle.lists.specs.Lists.{Distinct, member}
-use Rattle.lists.proofs.Tests.{case, option-case, never, and-left, and-right, false-by}
+use Rattle.lists.proofs.Tests.{case, option-case, none-not-some, never, and-left, and-right, false-by}
 use Rattle.lists.proofs.Distinct.{distinct-all, distinct-below}
 use Rattle.packed.specs.Graph.{Graph, nodes}
 use Rattle.packed.specs.Settings.{Settings}
@@ -23,23 +22,19 @@ use Rattle.rules.specs.Acceptable.{implies, covers, matches, linked, labelled, 
 use Rattle.rules.specs.Marks.{firstMark, secondMark}
 use Rattle.rules.specs.Placement.{edgesOf}
 use Rattle.rules.specs.Search.{pairsOf, candidateAt, nodeOf, accepts, acceptedPath}
-use Rattle.rules.proofs.Laws.{partner-nil, partner-own, partner-other, partner-member}
+use Rattle.rules.proofs.Laws.{exchanged-twice, partner-nil, partner-own, partner-other, partner-member}
 use Rattle.placements.specs.Listed.{whole}
 use Rattle.placements.specs.Claims.{Sound, imageIn, Places}
 use Rattle.placements.proofs.Labels.{edges-turned, edges-undirected, edges-compared, edges-not-compared}
 use Rattle.placements.proofs.Tests.{covers-elim, matches-elim}
-use Rattle.placements.proofs.Along.{exchanged-twice, Along, partner-along}
-use Rattle.rules.proofs.Stays.{pairs-cons, pairs-nil, partners-distinct, path-distinct, path-last}
-use Rattle.placements.proofs.Paths.{long₁}
+use Rattle.placements.proofs.Along.{Along, partner-along}
+use Rattle.rules.proofs.Stays.{pairs-cons, pairs-nil, exchanged-length, partners-distinct, path-distinct, path-last}
 
 implies-elim : (a b : Bool) → implies a b ≡ true → a ≡ true → b ≡ true
 implies-elim true b e h = e
 implies-elim false b e h = never false h refl
 
 -- partners
-
-none-some : {C : Type 0} (o : Option ℕ) (x : ℕ) → o ≡ none → o ≡ some x → C
-none-some o x e f = absurd (let z : _≡_ {A = ℕ} 0 1 = cc in omega arith)
 
 pub partner-mapped : (ps : Pairs) (x y : ℕ) → partner ps x ≡ some y → member x (mapped ps) ≡ true
 partner-mapped ps x y e = partner-member ps x ∙ rw e
@@ -53,7 +48,7 @@ mapped-partner ps x e f =
 -- where no two have the same partner, a partner's partner is the node itself
 partner-back : (n : ℕ) (ps : Pairs) → Distinct n (mapped (exchanged ps)) → (x y : ℕ) → partner ps x ≡ some y
     → partner (exchanged ps) y ≡ some x
-partner-back n [] d x y e = none-some (partner [] x) y (partner-nil x) e
+partner-back n [] d x y e = none-not-some (sym (partner-nil x) ∙ e)
 partner-back n (p ∷ ps) d x y e =
     case (eqb x (p .0))
     (λ h.
@@ -198,7 +193,7 @@ module _ (t : Task) (sound : Sound t) where
   accepts-is x path e = path-last t x path e .2
 
   none-carries : (g h : Graph) → Carries s g h []
-  none-carries g h l x y p q e f = none-some (partner [] x) p (partner-nil x) e
+  none-carries g h l x y p q e f = none-not-some (sym (partner-nil x) ∙ e)
 
   carries₁ : (path : List ℕ) → acceptedPath t path ≡ true → Carries s g₁ g₀ (exchanged (pairsOf t path))
   carries₁ [] e = rw (pairs-nil t) (none-carries g₁ g₀)
@@ -230,7 +225,7 @@ module _ (t : Task) (sound : Sound t) where
     image w l =
         let us = mapped (exchanged (pairsOf t path)) in
         mapped-partner (exchanged (pairsOf t path)) w
-        (distinct-all (nodes g₁) us (partners-distinct t path accepted) (long₁ t path ∙ eqb-true (length path) (nodes g₁) is-whole) w l)
+        (distinct-all (nodes g₁) us (partners-distinct t path accepted) (exchanged-length t path ∙ eqb-true (length path) (nodes g₁) is-whole) w l)
         (λ y h. h ∙ rw h)
 
     image-back : (w : ℕ) → w < nodes g₁ → partner (pairsOf t path) (imageIn t path w) ≡ some w

@@ -3,12 +3,12 @@
 use Prim.Native.Nat.{ℕ, zero, suc, _+_, _-_, _≤_}
 use mathlib.Core.Bool.{true}
 use mathlib.Core.List.{List, [], _∷_, _++_}
-use mathlib.Core.Option.{none, some}
+use mathlib.Core.Option.{some}
 use mathlib.Core.Path.{_≡_, refl, sym, _∙_}
 use native.Mathlib.Omega.{arith}
 use lib.ListN.{length}
 use Rattle.lists.specs.Lists.{from, keep, total, member}
-use Rattle.lists.proofs.Tests.{case, never}
+use Rattle.lists.proofs.Tests.{case, none-not-some, never}
 use Rattle.lists.proofs.Laws.{total-cons, member-nil, member-cases, member-head, member-tail, member-kept, from-member}
 use Rattle.packed.specs.Graph.{nodes}
 use Rattle.rules.specs.Task.{Task}
@@ -17,11 +17,11 @@ use Rattle.rules.specs.Search.{Top, Outer, Inner, Unwind, Record, started, pair
 use Rattle.placements.specs.Listed.{tried, stepsFrom, stepsOf}
 use Rattle.placements.specs.Calls.{unlimited, after}
 use Rattle.placements.specs.Claims.{Records}
-use Rattle.placements.proofs.Candidates.{inList₀, candidate-least, offered-cases}
-use Rattle.rules.proofs.Stays.{path-joined, path-last}
+use Rattle.placements.proofs.Candidates.{inList₀}
+use Rattle.rules.proofs.Stays.{offered-in-list, path-joined, path-last}
 use Rattle.placements.proofs.Paths.{accepted-nil, tried-offered, depth₁, no-candidate}
 use Rattle.placements.proofs.Accepted.{Good, good-accepted, accepted-good, steps-keep-good, start-good}
-use Rattle.placements.proofs.Searched.{Search, nothing, opened, taken, passed, left, then, first-kept, tried-list, onward-next, stepsAt, steps-more, below}
+use Rattle.placements.proofs.Searched.{Search, nothing, opened, taken, passed, left, then, next-kept, tried-list, tried-first, onward-next, stepsAt, steps-more, below}
 use Rattle.placements.proofs.Unlimited.{accepts-same, offered-same, search-unlimited}
 use Rattle.placements.proofs.Trace.{comes, stepped}
 
@@ -76,11 +76,7 @@ module _ (t : Task) where
         → (x : ℕ) → member x r ≡ true → Tries k path x rest
     tries-in i [] h o s rest made sum x m = never (member x []) m (member-nil x)
     tries-in i (a ∷ r) h o s rest made sum x m =
-        let n = nodes (t .graph₀) in
-        let p = inList₀ t (pairsOf t path) (c .list) in
-        let first = first-kept p (n - i) i a r h in
-        let same : i + (n - i) - suc a ≡ n - suc a = omega (arith, first .1, first .2) in
-        let others : keep p (from (suc a) (n - suc a)) ≡ r = rw same at (first .0) in
+        let others = next-kept (inList₀ t (pairsOf t path) (c .list)) (nodes (t .graph₀)) i a r h in
         member-cases x a r m
         (λ z. rw z (record {
           steps = s;
@@ -99,7 +95,7 @@ module _ (t : Task) where
         let n = nodes (t .graph₀) in
         let list = tried-list t path c e in
         let whole-run : n - 0 ≡ n = omega arith in
-        let first : head (tried t path) ≡ some (c .node₀) = rw list (rw whole-run at (candidate-least t (pairsOf t path) c e .0)) in
+        let first = tried-first t path c e in
         let made : Made path (innerOr (head (tried t path))) (g .steps + 1) = rw first (made-then (g .made) (opened e nothing)) in
         tries-in 0 (tried t path) (rw whole-run (sym list)) (tried-offered t path) (g .steps + 1) (g .rest) made
         (omega (arith, g .sum, steps-more t k path)) x m
@@ -107,14 +103,14 @@ module _ (t : Task) where
   offered-tried : (path : List ℕ) (x : ℕ) → offered t path x ≡ true → member x (tried t path) ≡ true
   unfolding tried
   offered-tried path x o =
-      offered-cases t path x o
-      (λ c e l h. member-kept (offered t path) x (from 0 (nodes (t .graph₀))) o
-      (from-member (nodes (t .graph₀)) 0 x (omega arith) (omega arith)))
+      let less = offered-in-list t path x o .less in
+      member-kept (offered t path) x (from 0 (nodes (t .graph₀))) o (from-member (nodes (t .graph₀)) 0 x (omega arith) (omega arith))
 
   tries-at : (k : ℕ) (path : List ℕ) → acceptedPath t path ≡ true → nodes (t .graph₁) ≤ suc k + length path
       → (g : Stage (suc k) path) (x : ℕ) → offered t path x ≡ true → Tries k path x (g .rest)
   tries-at k path a deep g x o =
-      offered-cases t path x o (λ c e l h. tries k path a deep c e g x (offered-tried path x o))
+      let i = offered-in-list t path x o in
+      tries k path a deep (i .candidate′) (i .is) g x (offered-tried path x o)
 
   -- there is a pair less to come with each that is there
   stage : (k : ℕ) (path : List ℕ) → acceptedPath t path ≡ true → k + length path ≡ nodes (t .graph₁) → Stage k path
@@ -155,9 +151,7 @@ module _ (t : Task) where
     where
       inner : (k : ℕ) → k + length path ≡ nodes (t .graph₁) → Passed path (Inner x)
       inner zero deep =
-          offered-cases t path x o
-          (λ c e l h. let z : none ≡ some c = sym (no-candidate t path a (omega arith)) ∙ e in absurd
-          (let w : _≡_ {A = ℕ} 0 1 = cc in omega arith))
+          none-not-some (sym (no-candidate t path a (omega arith)) ∙ offered-in-list t path x o .is)
       inner (suc k) deep =
           let g = stage (suc k) path a deep in
           let y = tries-at k path a (omega arith) g x o in

@@ -9,19 +9,19 @@ use native.Mathlib.Omega.{arith}
 use lib.ListN.{length}
 use borrow.Author.Tests.{lt-ltb}
 use Rattle.lists.specs.Lists.{from, keep, total, member}
-use Rattle.lists.proofs.Tests.{case, option-case}
+use Rattle.lists.proofs.Tests.{case, option-case, none-not-some}
 use Rattle.lists.proofs.Laws.{from-none, from-suc, keep-nil, keep-true, keep-false, keep-same-from, total-nil, total-cons, member-head, member-tail}
 use Rattle.packed.specs.Graph.{nodes}
 use Rattle.rules.specs.Task.{Task}
 use Rattle.rules.specs.Marks.{Candidate, head, nextFrom}
 use Rattle.rules.specs.Search.{Top, Outer, Inner, Unwind, pairsOf, candidateAt, innerOr, onward, accepts, offered, acceptedPath}
 use Rattle.placements.specs.Listed.{joined, tried, whole, itself, orItself, mapsFrom, stepsFrom, pairsFrom, listed, stepsOf, acceptedOf}
-use Rattle.placements.proofs.Candidates.{inList₀, candidate-least, offered-at}
-use Rattle.rules.proofs.Stays.{path-joined}
+use Rattle.placements.proofs.Candidates.{inList₀, offered-at}
+use Rattle.rules.proofs.Stays.{candidate-least, path-joined}
 use Rattle.placements.proofs.Paths.{accepted-nil, tried-offered, tried-none, no-candidate}
 
 -- what is kept after the first that is kept
-pub first-kept : (p : ℕ → Bool) (k i x : ℕ) (r : List ℕ) → keep p (from i k) ≡ x ∷ r
+first-kept : (p : ℕ → Bool) (k i x : ℕ) (r : List ℕ) → keep p (from i k) ≡ x ∷ r
     → (keep p (from (suc x) (i + k - suc x)) ≡ r) × (i ≤ x) × (x < i + k)
 first-kept p zero i x r e = absurd (nil≢cons (sym (keep-nil p) ∙ (rw (from-none i) at e)))
 first-kept p (suc k) i x r e =
@@ -44,6 +44,12 @@ joined-nil f = refl
 pub joined-cons : (f : ℕ → List (List ℕ)) (x : ℕ) (xs : List ℕ) → joined f (x ∷ xs) ≡ f x ++ joined f xs
 unfolding joined
 joined-cons f x xs = refl
+
+pub next-kept : (p : ℕ → Bool) (n i x : ℕ) (r : List ℕ) → keep p (from i (n - i)) ≡ x ∷ r → keep p (from (suc x) (n - suc x)) ≡ r
+next-kept p n i x r e =
+    let first = first-kept p (n - i) i x r e in
+    let same : i + (n - i) - suc x ≡ n - suc x = omega (arith, first .1, first .2) in
+    rw same at (first .0)
 
 module _ (t : Task) where
   -- so many steps, pairs accepted and maps found, from a path and top to another
@@ -84,6 +90,11 @@ module _ (t : Task) where
   tried-list path c e =
       keep-same-from (offered t path) (inList₀ t (pairsOf t path) (c .list)) (nodes (t .graph₀))
       (λ x l. offered-at t path c x e ∙ rw (lt-ltb x (nodes (t .graph₀)) l))
+
+  pub tried-first : (path : List ℕ) (c : Candidate) → candidateAt t path ≡ some c → head (tried t path) ≡ some (c .node₀)
+  tried-first path c e =
+      let whole-run : nodes (t .graph₀) - 0 ≡ nodes (t .graph₀) = omega arith in
+      rw (tried-list path c e) (rw whole-run at (candidate-least t (pairsOf t path) c e .0))
 
   -- the next one
   pub onward-next : (path : List ℕ) (c : Candidate) (x : ℕ) (r : List ℕ) → candidateAt t path ≡ some c
@@ -141,11 +152,7 @@ module _ (t : Task) where
     branches k path c e i [] h kids {s} {m} {o} x =
         retold (omega (arith, total-nil (stepsAt k path))) (omega (arith, total-nil (pairsAt k path))) (rw (joined-nil (mapsAt k path))) x
     branches k path c e i (a ∷ r) h kids {s} {m} {o} x =
-        let n = nodes (t .graph₀) in
-        let p = inList₀ t (pairsOf t path) (c .list) in
-        let first = first-kept p (n - i) i a r h in
-        let same : i + (n - i) - suc a ≡ n - suc a = omega (arith, first .1, first .2) in
-        let rest : keep p (from (suc a) (n - suc a)) ≡ r = rw same at (first .0) in
+        let rest = next-kept (inList₀ t (pairsOf t path) (c .list)) (nodes (t .graph₀)) i a r h in
         let further = branches k path c e (suc a) r rest (λ y l f. kids y (member-tail y a r l) f) x in
         let next : Search path (onward t path a) (total (stepsAt k path) r + s) (total (pairsAt k path) r + m)
         (joined (mapsAt k path) r ++ o) end last =
@@ -172,7 +179,7 @@ module _ (t : Task) where
     alone path e x = case (whole t path) (λ w. rw w (found e w x)) (λ w. rw w (closed e w x))
 
     pub or-others : (path l : List ℕ) (x : ℕ) (maps : List (List ℕ)) → head l ≡ some x → orItself t path l maps ≡ maps
-    or-others path [] x maps e = absurd (let z : _≡_ {A = ℕ} 0 1 = cc in omega arith)
+    or-others path [] x maps e = none-not-some e
     or-others path (y ∷ l) x maps e = refl
 
     pub below : (k : ℕ) (path : List ℕ) → acceptedPath t path ≡ true → nodes (t .graph₁) ≤ k + length path → Below end last k path
@@ -190,7 +197,7 @@ module _ (t : Task) where
         let n = nodes (t .graph₀) in
         let list = tried-list path c e in
         let whole-run : n - 0 ≡ n = omega arith in
-        let first : head (tried t path) ≡ some (c .node₀) = rw list (rw whole-run at (candidate-least t (pairsOf t path) c e .0)) in
+        let first = tried-first path c e in
         let all = branches k path c e 0 (tried t path) (rw whole-run (sym list))
         (λ y l f. below k (y ∷ path) (path-joined t y path a (tried-offered t path y l) f) (omega arith)) x in
         retold (omega (arith, steps-more k path)) (ap (λ z. z + m) (sym (pairs-more k path)))

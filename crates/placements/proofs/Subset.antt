@@ -1,7 +1,7 @@
 -- One-to-one matching of labelled edges, each taking the first equal one that is free, succeeds exactly where none stands more
 -- often in the first list than in the second.
 use Prim.Native.Nat.{ℕ, _+_, _≤_}
-use mathlib.Core.Bool.{Bool, true, false, cond, _&&_}
+use mathlib.Core.Bool.{true, cond}
 use mathlib.Core.List.{List, [], _∷_}
 use mathlib.Core.Option.{Option, none, some}
 use mathlib.Core.Logic.{_↔_}
@@ -13,12 +13,10 @@ use Rattle.lists.specs.Lists.{count}
 use Rattle.lists.proofs.Tests.{case, option-case, never, and-left, and-right}
 use Rattle.lists.proofs.Laws.{count-nil, count-cons}
 use Rattle.rules.specs.Acceptable.{removed, isSubset}
+use Rattle.rules.proofs.Matching.{same, removed-nil, removed-here, removed-nowhere, removed-further, subset-nil, subset-none, subset-some}
 
 abbrev Labelled : Type 0
 Labelled = ℕ × ℕ
-
-abbrev pub same : Labelled → Labelled → Bool
-same x y = eqb (x .0) (y .0) && eqb (x .1) (y .1)
 
 -- how often an edge stands in a list
 abbrev pub occurs : Labelled → List Labelled → ℕ
@@ -34,22 +32,6 @@ same-equal x y e =
       eqb-true (x .1) (y .1)
           (and-right (eqb (x .0) (y .0)) (eqb (x .1) (y .1)) e) i,
     )
-
-removed-nil : (x : Labelled) → removed x [] ≡ none
-unfolding removed
-removed-nil x = refl
-
-removed-here : (x y : Labelled) (ys : List Labelled) → same x y ≡ true → removed x (y ∷ ys) ≡ some ys
-unfolding removed
-removed-here x y ys e = rw (e, removed)
-
-removed-nowhere : (x y : Labelled) (ys : List Labelled) → same x y ≡ false → removed x ys ≡ none → removed x (y ∷ ys) ≡ none
-unfolding removed
-removed-nowhere x y ys e h = rw (e, removed, h)
-
-removed-further : (x y : Labelled) (ys zs : List Labelled) → same x y ≡ false → removed x ys ≡ some zs → removed x (y ∷ ys) ≡ some (y ∷ zs)
-unfolding removed
-removed-further x y ys zs e h = rw (e, removed, h)
 
 -- what removing x does to the numbers
 abbrev Removed : Labelled → List Labelled → Option (List Labelled) → Type 0
@@ -67,18 +49,6 @@ removed-counts x (y ∷ ys) =
     (λ zs h. rw (removed-further x y ys zs e h)
     (λ z. let rest : Removed x ys (some zs) = rw h at (removed-counts x ys) in
     omega (arith, rest z, count-cons (same z) y ys, count-cons (same z) y zs))))
-
-subset-nil : (ys : List Labelled) → isSubset [] ys ≡ true
-unfolding isSubset
-subset-nil ys = refl
-
-subset-none : (x : Labelled) (xs ys : List Labelled) → removed x ys ≡ none → isSubset (x ∷ xs) ys ≡ false
-unfolding isSubset
-subset-none x xs ys h = rw (isSubset, h)
-
-subset-some : (x : Labelled) (xs ys zs : List Labelled) → removed x ys ≡ some zs → isSubset (x ∷ xs) ys ≡ isSubset xs zs
-unfolding isSubset
-subset-some x xs ys zs h = rw (isSubset, h)
 
 pub subset-counts : (xs ys : List Labelled) → (isSubset xs ys ≡ true) ↔ ((z : Labelled) → occurs z xs ≤ occurs z ys)
 subset-counts [] ys = (λ e z. rw (count-nil (same z)) (omega arith), λ h. subset-nil ys)

@@ -19,9 +19,10 @@ use Rattle.order.specs.Claims.{labelledBetween}
 use Rattle.rules.specs.Task.{Pairs, partner}
 use Rattle.rules.specs.Acceptable.{all, ifAny, covers, labelledEntry, labelledEntries, labelledWalk, carried, matches}
 use Rattle.rules.proofs.Laws.{all-nil, all-cons}
+use Rattle.rules.proofs.Matching.{same}
 use Rattle.placements.proofs.Sums.{sum, sum-same, sum-zero, sum-add, sum-one, sum-at, sum-most-one}
 use Rattle.placements.proofs.Labels.{labelled-cons, passing}
-use Rattle.placements.proofs.Subset.{same, occurs, subset-counts}
+use Rattle.placements.proofs.Subset.{occurs, subset-counts}
 
 pub all-intro : (p : ℕ → Bool) (k i : ℕ) → ((x : ℕ) → i ≤ x → x < i + k → p x ≡ true) → all p (from i k) ≡ true
 all-intro p zero i h = rw (from-none i) (all-nil p)

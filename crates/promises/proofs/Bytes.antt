@@ -1,11 +1,12 @@
 -- Records and maps as bytes: a record handed over and back is the same, and a map written into a buffer is what is read off it.
-use Prim.Native.Nat.{ℕ, zero, suc, _+_, _-_, _*_, _≤_, _<_}
+use Prim.Native.Nat.{ℕ, suc, _+_, _-_, _*_, _≤_}
 use mathlib.Core.Bool.{true}
 use mathlib.Core.List.{List, [], _∷_, _++_, map, append-assoc}
 use mathlib.Core.Path.{_≡_, refl, sym, _∙_, ap}
 use native.Mathlib.Omega.{arith}
 use lib.Dec.{eqb}
-use lib.ListN.{length, getD, take, drop, replicate, length-append, length-drop, length-replicate, drop-of-length-le, take-append-drop}
+use lib.ListN.{length, getD, drop, replicate, length-append, length-drop, length-replicate}
+use lib.Seq.{getD-at, getD-append-add, drop-append-seam}
 use borrow.Author.Tests.{eqb-true, eq-eqb}
 use Rattle.lists.specs.Lists.{member}
 use Rattle.lists.proofs.Tests.{case, and-intro, never}
@@ -18,36 +19,23 @@ use Rattle.rules.specs.Task.{Task, exchange}
 use Rattle.rules.specs.Search.{Record, acceptedRecord}
 use Rattle.rules.specs.Handed.{chosen, recordOf, inOrder, pathBytes, handed, zeroBeyond, acceptedHanded}
 use Rattle.rules.specs.Calls.{idPairs}
+use Rattle.rules.proofs.Handed.{in-order-length, path-bytes-back}
 use Rattle.placements.proofs.Tests.{all-intro, all-elim}
 use Rattle.promises.specs.Sessions.{Map, mapIn, image}
 
 -- Records
 
-at-append : (l z : List ℕ) (x : ℕ) → getD (l ++ (x ∷ z)) (length l) 0 ≡ x
-at-append [] z x = refl
-at-append (y ∷ l) z x = at-append l z x
-
-behind-append : (l z : List ℕ) (i : ℕ) → length l ≤ i → getD (l ++ z) i 0 ≡ getD z (i - length l) 0
-behind-append [] z i h = let same : i ≡ i - 0 = omega arith in ap (λ k. getD z k 0) same
-behind-append (y ∷ l) z zero h = absurd (omega arith)
-behind-append (y ∷ l) z (suc i) h =
-    let same : i - length l ≡ suc i - length (y ∷ l) = omega arith in
-    behind-append l z i (omega arith) ∙ ap (λ k. getD z k 0) same
-
-in-order-length : (path : List ℕ) → length (inOrder path) ≡ length path
-unfolding inOrder
-in-order-length [] = refl
-in-order-length (x ∷ path) = length-append (inOrder path) (x ∷ []) ∙ omega (arith, in-order-length path)
+beyond-at : (before : List ℕ) (k i : ℕ) → length before ≤ i → getD (before ++ replicate k 0) i 0 ≡ 0
+beyond-at before k i h =
+    let sum : i ≡ length before + (i - length before) = omega arith in
+    rw sum (getD-append-add before (replicate k 0) (i - length before) 0 ∙ getD-zeros k (i - length before))
 
 chosen-in-order : (path z : List ℕ) → chosen (length path) (inOrder path ++ z) ≡ path
 unfolding chosen inOrder
 chosen-in-order [] z = refl
 chosen-in-order (x ∷ path) z =
     rw (append-assoc (inOrder path) (x ∷ []) z)
-    (λ i. first path z x i ∷ chosen-in-order path (x ∷ z) i)
-  where
-    first : (path z : List ℕ) (x : ℕ) → getD (inOrder path ++ (x ∷ z)) (length path) 0 ≡ x
-    first path z x = ap (λ k. getD (inOrder path ++ (x ∷ z)) k 0) (sym (in-order-length path)) ∙ at-append (inOrder path) z x
+    (λ i. getD-at (inOrder path) x z 0 (length path) (in-order-length path) i ∷ chosen-in-order path (x ∷ z) i)
 
 -- handed over and back
 pub record-again : (r : Record) → recordOf (handed r) ≡ r
@@ -58,45 +46,14 @@ handed-zero : (path : List ℕ) → zeroBeyond (length path) (pathBytes path) �
 handed-zero path =
     all-intro (λ i. eqb (getD (pathBytes path) i 0) 0) (128 - length path) (length path)
     (λ i l m.
-    eq-eqb (getD (pathBytes path) i 0) 0
-    (behind-append (inOrder path) (replicate (128 - length path) 0) i (omega (arith, in-order-length path))
-    ∙ getD-zeros (128 - length path) (i - length (inOrder path))))
+    eq-eqb (getD (pathBytes path) i 0) 0 (beyond-at (inOrder path) (128 - length path) i (omega (arith, in-order-length path))))
 
 pub accepted-handed : (t : Task) (r : Record) → acceptedRecord t r ≡ true → acceptedHanded t (handed r) ≡ true
 accepted-handed t r e = and-intro (handed-zero (r .path)) (ap (acceptedRecord t) (record-again r) ∙ e)
 
-pub chosen-length : (d : ℕ) (path : List ℕ) → length (chosen d path) ≡ d
-unfolding chosen
-chosen-length zero path = refl
-chosen-length (suc d) path = ap suc (chosen-length d path)
-
-take-more : (d : ℕ) (path : List ℕ) → d < length path → take d path ++ (getD path d 0 ∷ []) ≡ take (suc d) path
-take-more d [] h = absurd (omega arith)
-take-more zero (x ∷ path) h = refl
-take-more (suc d) (x ∷ path) h = ap (λ l. x ∷ l) (take-more d path (omega arith))
-
-in-order-chosen : (d : ℕ) (path : List ℕ) → d ≤ length path → inOrder (chosen d path) ≡ take d path
-unfolding chosen inOrder
-in-order-chosen zero path h = refl
-in-order-chosen (suc d) path h = ap (λ l. l ++ (getD path d 0 ∷ [])) (in-order-chosen d path (omega arith)) ∙ take-more d path (omega arith)
-
-zeros : (k d : ℕ) (path : List ℕ) → length path ≡ d + k → ((i : ℕ) → d ≤ i → i < length path → getD path i 0 ≡ 0)
-    → replicate k 0 ≡ drop d path
-zeros zero d path e h = sym (drop-of-length-le path {i = d} (omega arith))
-zeros (suc k) d [] e h = absurd (omega arith)
-zeros (suc k) zero (x ∷ path) e h =
-    λ i. sym (h 0 (omega arith) (omega arith)) i ∷ zeros k zero path (omega arith) (λ j l m. h (suc j) (omega arith) (omega arith)) i
-zeros (suc k) (suc d) (x ∷ path) e h = zeros (suc k) d path (omega arith) (λ j l m. h (suc j) (omega arith) (omega arith))
-
--- bytes that are zero beyond the depth are those of the positions chosen
-filled-again : (n d : ℕ) (path : List ℕ) → length path ≡ n → d ≤ n → ((i : ℕ) → d ≤ i → i < length path → getD path i 0 ≡ 0)
-    → inOrder (chosen d path) ++ replicate (n - length (chosen d path)) 0 ≡ path
-filled-again n d path long most beyond =
-    rw (chosen-length d path, in-order-chosen d path (omega arith), zeros (n - d) d path (omega arith) beyond) (take-append-drop d path)
-
 pub bytes-again : (d : ℕ) (path : List ℕ) → length path ≡ 128 → d ≤ 128 → zeroBeyond d path ≡ true → pathBytes (chosen d path) ≡ path
 bytes-again d path long most zero′ =
-    filled-again 128 d path long most
+    path-bytes-back d path long most
     (λ i l m. eqb-true (getD path i 0) 0 (all-elim (λ i. eqb (getD path i 0) 0) (128 - d) d zero′ i l (omega arith)))
 
 pub handed-length : (path : List ℕ) → length path ≤ 128 → length (pathBytes path) ≡ 128
@@ -123,13 +80,9 @@ module _ (s : Settings) (g₀ g₁ : Graph) where
   pairs-length [] = refl
   pairs-length (p ∷ ps) = ap (λ k. suc (suc k)) (pairs-length ps) ∙ omega arith
 
-drop-append : (l r : List ℕ) → drop (length l) (l ++ r) ≡ r
-drop-append [] r = refl
-drop-append (x ∷ l) r = drop-append l r
-
 -- the rest of a buffer stays
 pub written-rest : (l buffer : List ℕ) → drop (length l) (written l buffer) ≡ drop (length l) buffer
-written-rest l buffer = drop-append l (drop (length l) buffer)
+written-rest l buffer = drop-append-seam l (drop (length l) buffer)
 
 pub written-length : (l buffer : List ℕ) → length l ≤ length buffer → length (written l buffer) ≡ length buffer
 written-length l buffer h =

@@ -10,7 +10,7 @@ use lib.Dec.{eqb}
 use lib.ListN.{getD}
 use borrow.Author.Tests.{eqb-true}
 use Rattle.lists.specs.Lists.{count}
-use Rattle.lists.proofs.Tests.{case}
+use Rattle.lists.proofs.Tests.{case, none-not-some}
 use Rattle.lists.proofs.Laws.{count-nil, count-cons}
 use Rattle.packed.specs.Packed.{nodeCount, graphOf}
 use Rattle.packed.specs.Refusals.{Refused, first}
@@ -21,7 +21,6 @@ use Rattle.placements.specs.Claims.{Each}
 use Rattle.placements.proofs.Tests.{all-elim}
 use Rattle.promises.specs.Sessions.{Map, image, shows}
 use Rattle.promises.specs.Promises.{ListingMade, all-of, CountsAgree, Places, IsPlacement, HoldEveryPlacement, CheckAgrees}
-use Rattle.promises.proofs.Files.{some-none}
 use Rattle.promises.proofs.Maps.{placement-same}
 use Rattle.promises.proofs.Listing.{begun-free, holds-every-placement}
 use Rattle.promises.proofs.Symmetries.{listing-made}
@@ -37,11 +36,11 @@ no-rejected r e = let z : _≡_ {A = ℕ} 0 1 = cc in absurd (omega arith)
 
 judged-yes : (o : Option Refused) (P : Type 0) → Judged o P yes ↔ ((o ≡ none) × P)
 judged-yes none P = (⊎-elim (λ p. (refl, p .1)) (λ q. yes-no (q .0)), λ p. inl (refl, p .1))
-judged-yes (some r) P = (λ e. yes-rejected r e, λ p. some-none r (p .0))
+judged-yes (some r) P = (λ e. yes-rejected r e, λ p. none-not-some (sym (p .0)))
 
 judged-no : (o : Option Refused) (P : Type 0) → Judged o P no ↔ ((o ≡ none) × (P → ⊥))
 judged-no none P = (⊎-elim (λ p. yes-no (sym (p .0))) (λ q. (refl, q .1)), λ p. inr (refl, p .1))
-judged-no (some r) P = (λ e. no-rejected r e, λ p. some-none r (p .0))
+judged-no (some r) P = (λ e. no-rejected r e, λ p. none-not-some (sym (p .0)))
 
 pub judged-once : (o : Option Refused) (P : Type 0) (a b : CheckSays) → Judged o P a → Judged o P b → a ≡ b
 judged-once none P a b j k =

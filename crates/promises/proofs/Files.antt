@@ -1,44 +1,21 @@
 -- What follows where no line of the table applies to two files and settings.
 use Prim.Native.Nat.{ℕ}
-use mathlib.Core.Bool.{Bool, true, false}
-use mathlib.Core.List.{List, [], _∷_, _++_}
+use mathlib.Core.Bool.{false}
+use mathlib.Core.List.{List}
 use mathlib.Core.Option.{Option, none, some}
 use mathlib.Core.Path.{_≡_, refl, sym, _∙_}
 use native.Mathlib.Omega.{arith}
 use borrow.Author.Tests.{eqb-true, not-false, eq-eqb}
-use Rattle.lists.proofs.Tests.{option-case}
 use Rattle.packed.specs.Packed.{kind, graphOf}
-use Rattle.packed.specs.Refusals.{Refused, Line, line, first, fileLines, reading, graph}
+use Rattle.packed.specs.Refusals.{Refused, first, fileLines, reading, graph}
 use Rattle.packed.specs.Settings.{badSettings, settingsLines}
-use Rattle.packed.proofs.First.{first-before, first-behind}
-use Rattle.packed.proofs.Accepted.{accepted, Accepted}
+use Rattle.packed.proofs.First.{first-behind, none-of-nil, none-of-cons, none-for-cons, none-of-both}
+use Rattle.packed.proofs.Accepted.{accepted, Accepted, graphs-of-one-kind}
 use Rattle.rules.specs.Handed.{Handed, handed}
 use Rattle.rules.specs.Search.{started}
 use Rattle.rules.specs.Calls.{kindLines, pairLines, startSays, begun, orBegun}
 use Rattle.placements.specs.Claims.{OfOneKind}
 use Rattle.placements.proofs.Files.{files-ensure}
-
-pub some-none : {A C : Type 0} (x : A) → some x ≡ none → C
-some-none x e = let z : _≡_ {A = ℕ} 0 1 = cc in absurd (omega arith)
-
-pub none-of-both : (ls ms : List Line) → first (ls ++ ms) ≡ none → (first ls ≡ none) × (first ms ≡ none)
-none-of-both ls ms e =
-    option-case (first ls)
-    (λ h. (h, sym (first-behind ls ms h) ∙ e))
-    (λ r h. some-none r (sym (first-before ls ms r h) ∙ e))
-
-pub none-of-cons : (number file : ℕ) (b : Bool) (ls : List Line) → first (line number file b ∷ ls) ≡ none → (b ≡ false) × (first ls ≡ none)
-unfolding first
-none-of-cons number file true ls e = some-none _ e
-none-of-cons number file false ls e = (refl, e)
-
-pub none-for-cons : (number file : ℕ) (b : Bool) (ls : List Line) → b ≡ false → first ls ≡ none → first (line number file b ∷ ls) ≡ none
-unfolding first
-none-for-cons number file b ls e h = rw (e, first) h
-
-pub none-of-nil : first [] ≡ none
-unfolding first
-none-of-nil = refl
 
 -- a file to which no line applies is read
 file-read : (file : ℕ) (f : List ℕ) → first (fileLines file f) ≡ none → reading file f ≡ graph (graphOf f)
@@ -57,10 +34,6 @@ file-either file other f e =
     let h = none-of-cons 6 file _ _ (g .1) in
     none-for-cons 1 other _ _ (a .0) (none-for-cons 2 other _ _ (b .0) (none-for-cons 3 other _ _ (c .0) (none-for-cons 4 other _ _ (d .0)
     (none-for-cons 5 other _ _ (g .0) (none-for-cons 6 other _ _ (h .0) none-of-nil)))))
-
-same-kinds : (f₀ f₁ : List ℕ) → kind f₀ ≡ kind f₁ → graphOf f₁ .directed ≡ graphOf f₀ .directed
-unfolding graphOf
-same-kinds f₀ f₁ e = rw e
 
 pub record NotRefused (f₀ f₁ s : List ℕ) : Type 0 where
   pub no-line₀ : first (fileLines 0 f₀) ≡ none
@@ -95,7 +68,7 @@ module _ (f₀ f₁ s : List ℕ) where
 
   pub of-one-kind : NotRefused f₀ f₁ s → OfOneKind (graphOf f₀) (graphOf f₁)
   of-one-kind n =
-      files-ensure f₀ f₁ (graphOf f₀) (graphOf f₁) (file-read 0 f₀ (n .no-line₀)) (file-read 1 f₁ (n .no-line₁)) (same-kinds f₀ f₁ (n .kinds))
+      files-ensure f₀ f₁ (graphOf f₀) (graphOf f₁) (file-read 0 f₀ (n .no-line₀)) (file-read 1 f₁ (n .no-line₁)) (graphs-of-one-kind f₀ f₁ (n .kinds))
 
   -- Start's record says the same
   pub begins : (h : Handed) → startSays f₀ f₁ s ≡ begun h → (first (pairLines f₀ f₁ s) ≡ none) × (h ≡ handed started)

@@ -6,7 +6,7 @@ use mathlib.Core.Option.{Option, none, some}
 use mathlib.Core.Path.{_≡_, refl, sym, _∙_, ap}
 use native.Mathlib.Omega.{arith}
 use lib.Dec.{eqb}
-use Rattle.lists.proofs.Tests.{false-by}
+use Rattle.lists.proofs.Tests.{false-by, none-not-some}
 use Rattle.lists.proofs.Laws.{map-append, count-map, count-same}
 use Rattle.packed.specs.Graph.{nodes}
 use Rattle.packed.specs.Packed.{nodeCount, graphOf}
@@ -37,11 +37,11 @@ use Rattle.promises.proofs.Sessions.{endings, seen, continue-handed, se
 
 -- an ending over bytes is one over the rules
 pub ending-of : (o : Option Answer) (e : Ending) → endings o ≡ some e → (a : Answer) × (o ≡ some a) × (e ≡ Answered a)
-ending-of none e k = let z : _≡_ {A = ℕ} 0 1 = cc in absurd (omega arith)
+ending-of none e k = none-not-some k
 ending-of (some a) e k = let z : Answered a ≡ e = cc k in (a, refl, sym z)
 
 pub ending-same : (o : Option Answer) (a : Answer) → endings o ≡ some (Answered a) → o ≡ some a
-ending-same none a k = let z : _≡_ {A = ℕ} 0 1 = cc in absurd (omega arith)
+ending-same none a k = none-not-some k
 ending-same (some b) a k = let z : b ≡ a = cc k in ap some z
 
 each-of-map : {A B : Type 0} (P : B → Type 0) (f : A → B) (xs : List A) → Each (λ x. P (f x)) xs → Each P (map f xs)
@@ -54,7 +54,7 @@ none-limit e = let z : _≡_ {A = ℕ} 0 1 = cc in omega arith
 -- calls that ended with None, with a limit or without, found the whole listing and accepted all of its pairs
 pub none-ended : (t : Task) (budgets : List ℕ) (w : Called t) → Ends t budgets [] 0 w → w .ending ≡ some None
     → (w .maps ≡ listed t) × (w .steps ≡ stepsOf t) × (w .record′ .accepted ≡ min (acceptedOf t) 4294967295)
-none-ended t budgets w (ends-open a s c p q h) e = let z : _≡_ {A = ℕ} 0 1 = cc in absurd (omega arith)
+none-ended t budgets w (ends-open a s c p q h) e = none-not-some (sym a ∙ e)
 none-ended t budgets w (ends-none a d q x y z v) e = (d, omega arith, z)
 none-ended t budgets w (ends-limit a s c p q) e = let k : None ≡ Limit = cc in absurd (none-limit k)
 

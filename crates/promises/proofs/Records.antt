@@ -5,11 +5,9 @@ use mathlib.Core.List.{List, _++_}
 use mathlib.Core.Option.{none, some}
 use mathlib.Core.Path.{_≡_, sym, _∙_, ap, subst}
 use native.Mathlib.Omega.{arith}
-use lib.Dec.{ltb, leb}
+use lib.Dec.{ltb}
 use lib.ListN.{length}
-use borrow.Author.Tests.{leb-true}
 use Rattle.lists.proofs.Tests.{and-left, and-right}
-use Rattle.packed.specs.Graph.{nodes}
 use Rattle.packed.specs.Packed.{nodeCount, graphOf}
 use Rattle.packed.specs.Refusals.{Refused, first}
 use Rattle.packed.specs.Settings.{settingsOf}
@@ -18,22 +16,21 @@ use Rattle.rules.specs.Task.{Task}
 use Rattle.rules.specs.Search.{Record, started, acceptedRecord}
 use Rattle.rules.specs.Handed.{Handed, recordOf, pathBytes, handed, zeroBeyond, acceptedHanded}
 use Rattle.rules.specs.Calls.{pairLines, orWent, recordLines, continueSays}
+use Rattle.rules.proofs.Stays.{record-passes}
+use Rattle.rules.proofs.Handed.{chosen-length}
 use Rattle.placements.specs.Calls.{unlimited, after}
 use Rattle.placements.proofs.Accepted.{accepted-stays}
 use Rattle.placements.proofs.Bound.{steps-within}
 use Rattle.placements.proofs.Records.{records}
 use Rattle.promises.specs.Promises.{refusalOf, AcceptedNext, PassedAfter, RecordsMeanSomething}
 use Rattle.promises.proofs.Files.{not-refused, files-accepted, begins}
-use Rattle.promises.proofs.Bytes.{accepted-handed, chosen-length, bytes-again, handed-length}
+use Rattle.promises.proofs.Bytes.{accepted-handed, bytes-again, handed-length}
 use Rattle.promises.proofs.Continued.{t, task-nodes₀, most-steps, continue-goes, went-goes, went-parts, goes-unless}
 
 -- an accepted path is no longer than file 0's nodes are many
 depth-most : (f₀ f₁ s : List ℕ) → first (pairLines f₀ f₁ s) ≡ none → (r : Record) → acceptedRecord (t f₀ f₁ s) r ≡ true → length (r .path) ≤ 128
-unfolding acceptedRecord
 depth-most f₀ f₁ s free r e =
-    let n = nodes (t f₀ f₁ s .graph₀) in
-    let most = leb-true (length (r .path)) n (and-left (leb (length (r .path)) n) _ e) in
-    omega (arith, most, task-nodes₀ f₀ f₁ s, files-accepted f₀ f₁ s (not-refused f₀ f₁ s free) .0 .nodes-most)
+    omega (arith, record-passes (t f₀ f₁ s) r e .deep₀, task-nodes₀ f₀ f₁ s, files-accepted f₀ f₁ s (not-refused f₀ f₁ s free) .0 .nodes-most)
 
 module _ (f₀ f₁ s : List ℕ) (h : Handed) where
   -- with an accepted record only line 10 is left

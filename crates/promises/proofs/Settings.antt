@@ -5,7 +5,8 @@ use mathlib.Core.List.{List, [], _∷_}
 use mathlib.Core.Option.{none, some}
 use mathlib.Core.Path.{_≡_, refl}
 use lib.Dec.{eqb}
-use Rattle.lists.proofs.Tests.{and-left, and-right, not-true}
+use borrow.Author.Tests.{not-true}
+use Rattle.lists.proofs.Tests.{and-left, and-right}
 use Rattle.bits.specs.Bits.{field}
 use Rattle.packed.specs.Settings.{Settings, ordering, isSet, limited, limitField, settingsOf, badSettings}
 use Rattle.promises.specs.Promises.{withoutLimit}

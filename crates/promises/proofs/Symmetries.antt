@@ -6,6 +6,7 @@ use mathlib.Core.Path.{_≡_, refl, sym, _∙_, ap, subst}
 use Rattle.packed.specs.Graph.{Graph, nodes}
 use Rattle.packed.specs.Packed.{graphOf}
 use Rattle.packed.specs.Settings.{settingsOf, settingsLines}
+use Rattle.packed.proofs.First.{none-of-cons}
 use Rattle.order.specs.Order.{nodeOrder}
 use Rattle.order.proofs.Once.{order-member, order-distinct}
 use Rattle.lists.proofs.Distinct.{distinct-below}
@@ -18,7 +19,7 @@ use Rattle.placements.proofs.Symmetries.{identity, chained, counts-chained, rev
 use Rattle.placements.proofs.Ids.{counts-own, counts-back}
 use Rattle.promises.specs.Sessions.{Map, image}
 use Rattle.promises.specs.Promises.{ListingMade, all-of, Begins, CountsAgree, Places, Finds, IsPlacement, mapsOfRules, ListedOnce, ChainedPlacements, IdentityAndReverse}
-use Rattle.promises.proofs.Files.{NotRefused, not-refused, no-line, of-one-kind, file-either, none-of-cons}
+use Rattle.promises.proofs.Files.{NotRefused, not-refused, no-line, of-one-kind, file-either}
 use Rattle.promises.proofs.Bytes.{image-back}
 use Rattle.promises.proofs.Continued.{mapOfPath}
 use Rattle.promises.proofs.Maps.{placement-same, path-shows, Found′, found, found-map, found-placement}

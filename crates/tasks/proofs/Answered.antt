@@ -13,10 +13,10 @@ use Rattle.packed.specs.Packed.{kind, nodeCount, graphOf}
 use Rattle.packed.specs.Refusals.{Refused, first, fileLines, reading}
 use Rattle.packed.specs.Settings.{Settings, settingsOf, settingsLines, badSettings}
 use Rattle.packed.specs.Paper.{counts, summary}
-use Rattle.packed.proofs.Accepted.{nodes-of-graph}
+use Rattle.packed.proofs.First.{none-of-both, none-of-cons}
+use Rattle.packed.proofs.Accepted.{nodes-of-graph, graphs-of-one-kind}
 use Rattle.rules.specs.Calls.{kindLines, pairLines}
 use Rattle.tasks.specs.Tasks.{accepted, refused, orAccepted, examineSays}
-use Rattle.tasks.proofs.Lines.{none-of-both, none-of-cons}
 
 -- what an acceptance says of the two files and the settings
 pub record Accepted (f₀ f₁ s : List ℕ) (directed : Bool) (n₀ edges₀ n₁ edges₁ : ℕ) (set : Settings) : Type 0 where
@@ -67,10 +67,6 @@ counts-of : (file : ℕ) (f : List ℕ) → first (fileLines file f) ≡ none
 unfolding reading
 counts-of file f e = rw e
 
-alike : (f₀ f₁ : List ℕ) → kind f₀ ≡ kind f₁ → graphOf f₁ .directed ≡ graphOf f₀ .directed
-unfolding graphOf
-alike f₀ f₁ e = rw e
-
 module _ (f₀ f₁ s : List ℕ) where
   pub examined-first : (r : Refused) → examineSays f₀ f₁ s ≡ refused r → first (pairLines f₀ f₁ s) ≡ some r
   examined-first r h =
@@ -86,7 +82,7 @@ module _ (f₀ f₁ s : List ℕ) where
       let files = none-of-both (fileLines 0 f₀) (kindLines (kind f₀) f₁ s) (p .no-refusal) in
       let second = none-of-both (fileLines 1 f₁) _ (files .1) in
       let kinds = none-of-cons 7 0 _ (settingsLines s) (second .1) in
-      let one = alike f₀ f₁ (eqb-true (kind f₀) (kind f₁) (not-false _ (kinds .0))) in
+      let one = graphs-of-one-kind f₀ f₁ (eqb-true (kind f₀) (kind f₁) (not-false _ (kinds .0))) in
       record {
         no-line-applies = p .no-refusal;
         first-counts = rw (p .directed-is, p .first-nodes-are, p .first-edges-are) (counts-of 0 f₀ (files .0));

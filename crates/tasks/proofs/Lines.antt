@@ -2,16 +2,16 @@
 -- to those behind them. A kind is one bit, so that line 7 compares the two directed flags.
 use Prim.Native.Nat.{ℕ, _<_}
 use mathlib.Core.Bool.{Bool, Bool·beq, true, false, not}
-use mathlib.Core.List.{List, _∷_, _++_}
+use mathlib.Core.List.{List, _∷_}
 use mathlib.Core.Option.{none, some}
 use mathlib.Core.Path.{_≡_, refl, sym, _∙_}
 use native.Mathlib.Omega.{arith}
 use lib.Dec.{eqb}
 use borrow.Author.Tests.{eqb-true, eqb-false, eq-eqb, ne-eqb}
-use Rattle.lists.proofs.Tests.{case, option-case}
+use Rattle.lists.proofs.Tests.{case, none-not-some}
 use Rattle.bits.proofs.Laws.{field-below}
 use Rattle.packed.specs.Packed.{kind, graphOf}
-use Rattle.packed.specs.Refusals.{Refused, Line, line, first, fileLines}
+use Rattle.packed.specs.Refusals.{Refused, line, first, fileLines}
 use Rattle.packed.specs.Settings.{Settings, settingsOf, settingsLines, badSettings}
 use Rattle.packed.proofs.First.{first-before, first-behind, no-line}
 use Rattle.packed.proofs.Accepted.{Counted, nodes-of-graph, edges-of-graph}
@@ -19,23 +19,8 @@ use Rattle.settings.specs.Paper.{settingsReading}
 use Rattle.rules.specs.Calls.{kindLines}
 use Rattle.tasks.specs.Tasks.{ExamineSays, accepted, refused, orAccepted, examineSays}
 
-some-none : {A C : Type 0} (x : A) → some x ≡ none → C
-some-none x e = let z : _≡_ {A = ℕ} 0 1 = cc in absurd (omega arith)
-
 some-same : {A : Type 0} (x y : A) → some x ≡ some y → x ≡ y
 some-same x y e = cc
-
--- where no line of two lists applies, none of either does
-pub none-of-both : (ls ms : List Line) → first (ls ++ ms) ≡ none → (first ls ≡ none) × (first ms ≡ none)
-none-of-both ls ms e =
-    option-case (first ls)
-    (λ h. (h, sym (first-behind ls ms h) ∙ e))
-    (λ r h. some-none r (sym (first-before ls ms r h) ∙ e))
-
-pub none-of-cons : (number file : ℕ) (b : Bool) (ls : List Line) → first (line number file b ∷ ls) ≡ none → (b ≡ false) × (first ls ≡ none)
-unfolding first
-none-of-cons number file true ls e = some-none _ e
-none-of-cons number file false ls e = (refl, e)
 
 -- a kind is 0 or 1
 pub kind-below : (s : List ℕ) → kind s < 2
@@ -53,10 +38,10 @@ kinds-compared a b l m =
 
 -- bytes that are no settings are bad ones, and bytes that are settings are no bad ones
 bad : (s : List ℕ) → none ≡ settingsReading s → badSettings s ≡ true
-bad s e = case (badSettings s) (λ h. h) (λ h. some-none (settingsOf s) (sym (rw h at e)))
+bad s e = case (badSettings s) (λ h. h) (λ h. none-not-some (rw h at e))
 
 good : (s : List ℕ) (set : Settings) → some set ≡ settingsReading s → (badSettings s ≡ false) × (set ≡ settingsOf s)
-good s set e = case (badSettings s) (λ h. some-none set (rw h at e)) (λ h. (h, some-same set (settingsOf s) (rw h at e)))
+good s set e = case (badSettings s) (λ h. none-not-some (sym (rw h at e))) (λ h. (h, some-same set (settingsOf s) (rw h at e)))
 
 module _ (directed₀ : Bool) (n₀ edges₀ kind₀ : ℕ) (f₁ s : List ℕ) where
   -- what is said once no line applies to file 0

@@ -1,8 +1,7 @@
 -- `tasks::counts_agree` meets its contract: where the node counts do not agree, the edge counts are not looked at.
 use mathlib.Core.Path.{sym, _∙_}
 use borrow.Author.Needs.{needs}
-use borrow.Author.Tests.{not-false}
-use Rattle.lists.proofs.Tests.{not-true}
+use borrow.Author.Tests.{not-false, not-true}
 use Rattle.tasks.proofs.counts_agree.Statement.{statement}
 use Rattle.tasks.proofs.counts_agree.Tie as tie
 
