@@ -8,7 +8,7 @@ use native.Mathlib.Omega.{arith}
 use lib.Dec.{eqb}
 use native.Mathlib.Numerals.{add-one}
 use Rattle.lists.specs.Lists.{Distinct}
-use Rattle.lists.proofs.Tests.{case}
+use Rattle.lists.proofs.Tests.{case, none-not-some}
 use Rattle.lists.proofs.Laws.{keep-same-run}
 use Rattle.packed.specs.Graph.{Graph, nodes}
 use Rattle.graph.specs.Walk.{between}
@@ -16,7 +16,7 @@ use Rattle.graph.specs.Matrix.{cell}
 use Rattle.rules.specs.Task.{Task, Pairs, exchanged, mapped, partner}
 use Rattle.rules.specs.Marks as Rule
 use Rattle.rules.specs.Marks.{head, least}
-use Rattle.rules.proofs.Laws.{none-not-some, partner-nil, partner-own, partner-other}
+use Rattle.rules.proofs.Laws.{partner-nil, partner-own, partner-other}
 use Rattle.state.specs.State.{second, Agrees}
 use Rattle.state.specs.declared.Vf2State.{Vf2State}
 use Rattle.search.specs.Candidates.{listOf, inListIn, leastIn, candidateIn}

@@ -13,7 +13,7 @@ use Rattle.rules.specs.Task.{Task, countsAgree}
 use Rattle.rules.specs.Search.{Top, Outer, Inner, Unwind, Record, above, raised, step, Found, None, Limit, Paused, isEnd, Went, run}
 use Rattle.placements.specs.Listed.{listed, stepsOf, acceptedOf}
 use Rattle.placements.specs.Claims.{LimitMost}
-use Rattle.rules.proofs.Runs.{run-stops, run-pauses, run-finds, run-goes-on, stops-ended, stops-limited, stops-nowhere}
+use Rattle.rules.proofs.Runs.{outer-goes, inner-goes, run-stops, run-pauses, run-finds, run-goes-on, stops-ended, stops-limited, stops-nowhere}
 use Rattle.placements.proofs.Steps.{step-candidate, step-none, step-taken, step-over, step-passed, step-left}
 use Rattle.placements.proofs.Searched.{Search, nothing, opened, closed, found, taken, passed, left, retold, then}
 
@@ -85,14 +85,6 @@ module _ (t : Task) where
         within = w;
       }
 
-  inner-not-end : (path : List ℕ) (x : ℕ) → isEnd path (Inner x) ≡ false
-  inner-not-end [] x = refl
-  inner-not-end (y ∷ path) x = refl
-
-  outer-not-end : (path : List ℕ) → isEnd path Outer ≡ false
-  outer-not-end [] = refl
-  outer-not-end (y ∷ path) = refl
-
   -- one step more has been made
   module _ {s c : ℕ} {done : List (List ℕ)} {path : List ℕ} {top : Top} (made : Search t [] Outer s c done path top) where
     made-more : {m : ℕ} {o : List (List ℕ)} {next : List ℕ} {turn : Top} → Search t path top 1 m o next turn
@@ -125,15 +117,15 @@ module _ (t : Task) where
     advance-at k s c done made nothing e f a b d g w = at-end e f (omega arith) (omega arith) (sym (append-nil done) ∙ d)
     advance-at k s c done made (opened {path} {c = x} h y) e f a b d g w =
         let step-is = step-candidate t path k x h in
-        moves (outer-not-end path) (rw step-is) c
+        moves (outer-goes path) (rw step-is) c
         (rw step-is (point k (suc s) c done (made-plain made (opened h nothing)) y e f (omega arith) b d g w))
     advance-at k s c done made (closed {path} h v y) e f a b d g w =
         let step-is : step t path Outer k ≡ (at path Unwind k, false) = rw v at (step-none t path k h) in
-        moves (outer-not-end path) (rw step-is) c
+        moves (outer-goes path) (rw step-is) c
         (rw step-is (point k (suc s) c done (made-plain made (closed h v nothing)) y e f (omega arith) b d g w))
     advance-at k s c done made (found {path} {o} h v y) e f a b d g w =
         let step-is : step t path Outer k ≡ (at path Unwind k, true) = rw v at (step-none t path k h) in
-        finds (outer-not-end path) (rw step-is)
+        finds (outer-goes path) (rw step-is)
         (rw step-is
         (point k (suc s) c (done ++ (path ∷ [])) (retold t refl (omega arith) refl (made-more made (found h v nothing))) y e f
         (omega arith) b
@@ -144,7 +136,7 @@ module _ (t : Task) where
         let step-is = step-over t path x k h v in
         exceeded-by c k g w v
         (λ limit l same up.
-        exceeds (inner-not-end path x) (rw step-is) (rw step-is (inner-not-end path x))
+        exceeds (inner-goes path x) (rw step-is) (rw step-is (inner-goes path x))
         (rw step-is
         (record {
           limit = limit;
@@ -165,14 +157,14 @@ module _ (t : Task) where
         }))))
         (λ v.
         let step-is = step-taken t path x k h v in
-        moves (inner-not-end path x) (rw step-is) (suc c)
+        moves (inner-goes path x) (rw step-is) (suc c)
         (rw step-is
         (point (raised k) (suc s) (suc c) done (retold t refl (omega arith) (append-nil done) (made-more made (taken h nothing))) y e f
         (omega arith) (omega arith)
         d (rw g (raised-counts c)) v)))
     advance-at k s c done made (passed {path} {x} h y) e f a b d g w =
         let step-is = step-passed t path x k h in
-        moves (inner-not-end path x) (rw step-is) c
+        moves (inner-goes path x) (rw step-is) c
         (rw step-is (point k (suc s) c done (made-plain made (passed h nothing)) y e f (omega arith) b d g w))
     advance-at k s c done made (left {path} {x} y) e f a b d g w =
         let step-is = step-left t path x k in

@@ -2,16 +2,14 @@
 -- that they spell and goes on as it came.
 use Prim.Native.Nat.{ℕ, _+_, _*_, _-_, _≤_, _<_}
 use mathlib.Core.Bool.{false≢true}
-use mathlib.Core.List.{List, _∷_, _++_}
+use mathlib.Core.List.{List, _++_}
 use mathlib.Core.Path.{_≡_, refl, _∙_}
 use native.Mathlib.Omega.{arith}
-use native.Mathlib.Numerals.{add-one}
 use lib.Dec.{ltb, eqb}
 use lib.ListN.{length, getD, set, drop, length-set, length-map}
-use lib.Seq.{set-at, drop-cons, append-snoc}
 use borrow.Author.Tests.{ltb-true, ltb-false, eqb-true, eqb-false}
 use Rattle.lists.specs.Lists.{from}
-use Rattle.lists.proofs.Laws.{from-none, from-length, map-from-more}
+use Rattle.lists.proofs.Laws.{from-none, from-length, map-from-more, stored-behind}
 use Rattle.lists.proofs.Tests.{case}
 use Rattle.text.specs.Text.{valueOf, Digits, byteAt, bytesOf}
 use Rattle.text.proofs.decode.Statement.{statement}
@@ -34,10 +32,7 @@ digits-more text i d high low j h =
 one-more : (text bytes : List ℕ) (i : ℕ) → i < length bytes
     → set (bytesOf text i ++ drop i bytes) i (byteAt text i) ≡ bytesOf text (i + 1) ++ drop (i + 1) bytes
 one-more text bytes i h =
-    let byte = byteAt text i in
-    let rest = drop (i + 1) bytes in
-    let split : drop i bytes ≡ getD bytes i 0 ∷ rest = rw (add-one i) (drop-cons bytes i 0 h) in
-    rw (split, set-at (bytesOf text i) (getD bytes i 0) rest byte i (length-map (from 0 i) _ ∙ from-length 0 i), map-from-more (byteAt text) i, append-snoc (bytesOf text i) byte rest)
+    rw (map-from-more (byteAt text) i) (stored-behind (bytesOf text i) bytes i (byteAt text i) (length-map (from 0 i) _ ∙ from-length 0 i) h)
 
 abbrev Inv-loop : tie.InvT-loop
 Inv-loop text bytes₀ count i₀ bytes i =
