@@ -8,6 +8,7 @@ replaced, and bytes that are random altogether. The expected answers are those o
 nothing with the programs. It prints how many inputs each call had, how many were refused with which number, and how many differ.
 """
 import argparse
+import pathlib
 import random as randoms
 from collections import Counter
 
@@ -129,13 +130,26 @@ def batch(random, count):
             yield "relist", *search_case(random, board, block)
 
 
+def write(folder, cases):
+    """Each program's cases as the stdin and stdout of its crate, in a copy of the project."""
+    for name in ("replay", "relist"):
+        crate = pathlib.Path(folder) / "crates" / name
+        crate.joinpath("stdin").write_text("".join(text for owner, text, _ in cases if owner == name))
+        crate.joinpath("stdout").write_text("".join(want for owner, _, want in cases if owner == name))
+
+
 def main():
     words = argparse.ArgumentParser()
-    words.add_argument("--replay", required=True)
-    words.add_argument("--relist", required=True)
+    words.add_argument("--replay", help="the program replay")
+    words.add_argument("--relist", help="the program relist")
     words.add_argument("--seed", type=int, default=1)
     words.add_argument("--count", type=int, default=100000)
+    words.add_argument("--write", metavar="FOLDER", help="run nothing: write the cases into the crates of this copy of the project")
     given = words.parse_args()
+    if given.write:
+        return write(given.write, list(batch(randoms.Random(given.seed), given.count)))
+    if not (given.replay and given.relist):
+        raise SystemExit("damage.py: --replay and --relist, or --write")
     programs = {"replay": given.replay, "relist": given.relist}
     random = randoms.Random(given.seed)
     calls, answers, differ, left = Counter(), Counter(), [], given.count

@@ -2,7 +2,6 @@
 use Prim.Native.Nat.{ℕ, _+_, _-_, _≤_, _<_}
 use mathlib.Core.Bool.{Bool}
 use mathlib.Core.List.{List, [], _∷_}
-use mathlib.Core.Option.{some}
 use mathlib.Core.Path.{_≡_, sym, _∙_, ap}
 use native.Mathlib.Omega.{arith}
 use lib.Dec.{eqb}
@@ -13,11 +12,11 @@ use Rattle.lists.proofs.Laws.{keep-same-run}
 use Rattle.packed.specs.Graph.{Graph, nodes}
 use Rattle.graph.specs.Walk.{between}
 use Rattle.graph.specs.Matrix.{cell}
-use Rattle.rules.specs.Task.{Task, Pairs, exchanged, mapped, partner}
+use Rattle.rules.specs.Task.{Task, Pairs, exchanged, mapped}
 use Rattle.rules.specs.Marks as Rule
 use Rattle.rules.specs.Marks.{head, least}
 use Rattle.rules.proofs.Laws.{partner-nil, partner-own, partner-other}
-use Rattle.state.specs.State.{second, Agrees}
+use Rattle.state.specs.State.{Agrees}
 use Rattle.state.specs.declared.Vf2State.{Vf2State}
 use Rattle.search.specs.Candidates.{listOf, inListIn, leastIn, candidateIn}
 use Rattle.search.specs.declared.OpenList.{OpenList}

@@ -2,7 +2,7 @@
 use Prim.Native.Nat.{ℕ}
 use mathlib.Core.Bool.{Bool}
 use lib.ListN.{length}
-use Rattle.packed.specs.Graph.{Graph, nodes}
+use Rattle.packed.specs.Graph.{nodes}
 use Rattle.packed.specs.Refusals.{Refused, Reading, graph, refusal}
 use Rattle.packed.specs.declared.Refusal.{Refusal}
 use Rattle.packed.specs.declared.Refusal.the-variants.{TooShort, TooManyNodes, TooManyEdges, WrongLength, PaddingBit, UnknownNode, KindsDiffer, BadSettings, NoAcceptedPath, BufferTooShort, WrongMapLength}

@@ -18,7 +18,6 @@ use Rattle.placements.specs.Listed.{listed, stepsOf, acceptedOf}
 use Rattle.placements.specs.Calls.{Called, unlimited}
 use Rattle.placements.specs.Claims.{called, Limited, idPairs}
 use Rattle.placements.proofs.Unlimited.{pairs-same, limit-plays-no-part}
-use Rattle.placements.proofs.Called.{calls-end}
 use Rattle.placements.proofs.Listing.{limited}
 use Rattle.promises.specs.Sessions.{Map, Ending, Answered, Session, session}
 use Rattle.promises.specs.Promises.{Begins, CountsAgree, LongEnough, mapsOfRules, withoutLimit, ListsFirstMaps, WithALimit}

@@ -4,13 +4,12 @@ use mathlib.Core.List.{List, [], _∷_}
 use mathlib.Core.Path.{_≡_, refl, sym, _∙_, ap}
 use native.Mathlib.Omega.{arith}
 use lib.ListN.{getD}
-use Rattle.packed.specs.Refusals.{Refused, first}
+use Rattle.packed.specs.Refusals.{first}
 use Rattle.packed.specs.Paper.{numberOf, refusedBy, readPaper}
 use Rattle.packed.specs.declared.Refusal.{Refusal}
 use Rattle.packed.specs.declared.Refusal.the-variants.{TooShort, TooManyNodes, TooManyEdges, WrongLength, PaddingBit, UnknownNode, KindsDiffer, BadSettings, NoAcceptedPath, BufferTooShort, WrongMapLength}
 use Rattle.packed.specs.declared.ReadAnswer.{ReadAnswer}
 use Rattle.packed.specs.declared.ReadAnswer.the-variants as read
-use Rattle.order.specs.Paper as paper
 use Rattle.order.specs.Paper.{orderPaper}
 use Rattle.order.specs.declared.OrderAnswer.{OrderAnswer}
 use Rattle.order.specs.declared.OrderAnswer.the-variants as order
