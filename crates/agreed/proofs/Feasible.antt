@@ -24,7 +24,7 @@ use Rattle.graph.proofs.Walk.{Below, leads-below, within-turned, between-turned
 use Rattle.tables.specs.Prepared.{Prepared}
 use Rattle.rules.specs.Task.{Task, agree, Pairs, exchanged, mapped, partner}
 use Rattle.rules.specs.Marks.{follows, firstMark, secondMark, Out, In, inList}
-use Rattle.rules.specs.Acceptable.{covers, isNew, labelledEntry, labelledEntries, labelledWalk, carried, matches, linked, labelled, ahead, sameLabel, eachWay, feasible, markedNodes}
+use Rattle.rules.specs.Acceptable.{covers, isNew, labelledEntry, labelledEntries, labelledWalk, carried, matches, linked, labelled, ahead, sameLabel, feasible, markedNodes}
 use Rattle.state.specs.State.{decoded, stamp, marks, second, Agrees, isOpen}
 use Rattle.state.specs.declared.Vf2State.{Vf2State}
 use Rattle.state.proofs.Stamps.{stamp-marked}
@@ -97,13 +97,6 @@ marks-follow-directed : (directed : Bool) (edges : ℕ → ℕ → ℕ) (us : Li
     → cond directed (marks edges us n) 0 ≡ count (λ v. directed && follows edges us v) (from 0 n)
 marks-follow-directed true edges us n = marks-follow edges us n
 marks-follow-directed false edges us n = sym (count-none (from 0 n))
-
--- the third test may come first
-third-first : (c a b d : Bool) → (c && (a && (b && d))) ≡ (a && (b && (c && d)))
-third-first true a b d = refl
-third-first false true true d = refl
-third-first false true false d = refl
-third-first false false b d = refl
 
 -- one graph's arrays and its state, as the tests see them
 abbrev pub sideOf : ℕ → ℕ → List ℕ → List ℕ → List ℕ → Vf2State → Side
@@ -239,9 +232,6 @@ module _ {t : Task} {k : Switches} {n₀ e₀ n₁ e₁ : ℕ} {m₀ w₀ l₀ m
   same-label-agreed =
       rw (seen₀ .prepared .labels-are a less₀, seen₁ .prepared .labels-are b less₁, switched .node-labels-are)
 
-  abbrev each : (Graph → Graph → Bool) → Bool
-  each = eachWay t ps a b
-
   tests-agreed : feasibleIn k (side seen₀) (side seen₁) a b ≡ feasible t ps a b
   unfolding feasibleIn feasible
   tests-agreed =
@@ -255,7 +245,6 @@ module _ {t : Task} {k : Switches} {n₀ e₀ n₁ e₁ : ℕ} {m₀ w₀ l₀ m
         labelled-agreed Incoming,
         switched .directed-is,
       )
-      (third-first (sameLabel t ps a b) (each (linked t ps a b)) (each (ahead t ps a b)) (each (labelled t ps a b)))
 
 -- what is tested of the arrays, and what the rules say of the task
 module _ (t : Task) (k : Switches) (ps : Pairs) (n₀ e₀ n₁ e₁ : ℕ) (m₀ w₀ l₀ m₁ w₁ l₁ : List ℕ) where
