@@ -72,9 +72,9 @@ def ladder(sections):
     return circuit(parts + [(2, s + 1, 0) for s in range(1, sections + 1)])
 
 
-def filters(vf2pp, induced):
-    """A filter of three sections in a row of 25."""
-    return ladder(25), ladder(3), Settings(True, vf2pp, induced, True, True)
+def filters(sections, vf2pp, induced):
+    """A filter of so many sections in a row of 25."""
+    return ladder(25), ladder(sections), Settings(True, vf2pp, induced, True, True)
 
 
 def bridge():
@@ -114,10 +114,14 @@ CASES = [
     ("netlist-like, both labels", netlist_chain),
     ("dense, 46 nodes, K4", dense_board),
     ("ring of 128 on itself, Equal", ring_on_itself),
-    ("filters, by id", lambda: filters(False, False)),
-    ("filters, by id, induced", lambda: filters(False, True)),
-    ("filters, VF2++", lambda: filters(True, False)),
-    ("filters, VF2++, induced", lambda: filters(True, True)),
+    ("filter section, by id", lambda: filters(1, False, False)),
+    ("filter section, by id, induced", lambda: filters(1, False, True)),
+    ("filter section, VF2++", lambda: filters(1, True, False)),
+    ("filter section, VF2++, induced", lambda: filters(1, True, True)),
+    ("three sections, by id", lambda: filters(3, False, False)),
+    ("three sections, by id, induced", lambda: filters(3, False, True)),
+    ("three sections, VF2++", lambda: filters(3, True, False)),
+    ("three sections, VF2++, induced", lambda: filters(3, True, True)),
     ("bridge in a mesh of 15 nets", bridge),
     ("grid 8 x 16, ring of 9: not there", absent),
 ]

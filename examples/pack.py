@@ -33,7 +33,7 @@ def label(name):
 def circuit(text):
     """The graph, and its nodes' names: parts first, then nets in order of first use. An edge joins a part to a net for each pin,
     labelled by the pin's number; edges rise."""
-    parts = [line.split() for line in text.strip().splitlines()]
+    parts = [line.split() for line in text.splitlines() if line.strip()]
     nets = list(dict.fromkeys(net for _, *pins in parts for net in pins if net != "-"))
     labels = [label(name) for name, *_ in parts] + [GROUND if net == "0" else NET for net in nets]
     pins = [(part, net, pin) for part, (_, *ends) in enumerate(parts) for pin, net in enumerate(ends, 1) if net != "-"]
@@ -48,8 +48,8 @@ def read(path):
         raise SystemExit(f"pack.py: {path}: {error}")
     if MAX_NODES < len(graph.labels) or MAX_EDGES < len(graph.edges):
         raise SystemExit(f"pack.py: {path}: more than {MAX_NODES} nodes or {MAX_EDGES} pins")
-    if max(graph.labels, default=0) > 4095 or max((pin for *_, pin in graph.edges), default=0) > 63:
-        raise SystemExit(f"pack.py: {path}: a label above 4095 or a pin above 63")
+    if not all(0 <= each <= 4095 for each in graph.labels) or not all(pin <= 63 for *_, pin in graph.edges):
+        raise SystemExit(f"pack.py: {path}: a label outside 0 to 4095 or a pin above 63")
     return graph, names
 
 
@@ -59,7 +59,7 @@ def main():
     board, block, folder = sys.argv[1:]
     place = pathlib.Path(folder)
     circuits = [("g0.bin", "board", *read(board)), ("g1.bin", "block", *read(block))]
-    place.mkdir(exist_ok=True)
+    place.mkdir(parents=True, exist_ok=True)
     for file, side, graph, names in circuits:
         place.joinpath(file).write_bytes(pack(graph))
         print(side, " ".join(f"{node}={name}" for node, name in enumerate(names)))

@@ -67,8 +67,17 @@ def read_case(random, file):
     return case(call, buffer, file), " ".join(["ordered", str(n)] + [str(v) for v in ids] + [str(FILL)] * (buffer - n)) + "\n"
 
 
+def any_record(random):
+    """Every field at random."""
+    depth = random.choice([random.randrange(4), random.randrange(65536)])
+    top = random.choice([("outer",), ("unwind",), ("inner", random.choice([random.randrange(8), random.randrange(65536)]))])
+    return Record(depth, random.randbytes(128), top, random.randrange(2**32))
+
+
 def some_record(random, file0, file1, settings):
     """A record that the search passes, or one with bytes changed, or any."""
+    if random.random() < 0.2:
+        return any_record(random)
     try:
         search = model.Search(file0, file1, settings)
     except Refused:
