@@ -17,11 +17,11 @@ use Rattle.packed.specs.Settings.{Settings}
 use Rattle.order.specs.Order.{nodeOrder}
 use Rattle.order.proofs.Once.{order-holds-each-once}
 use Rattle.order.proofs.Renumbered.{order-keeps-nodes}
-use Rattle.rules.specs.Task.{Task, taskOf, agree}
+use Rattle.rules.specs.Task.{Task, taskOf, agree, graphsAgree}
 use Rattle.rules.specs.Placement.{Placement}
-use Rattle.rules.specs.Search.{mapOf, continue}
+use Rattle.rules.specs.Search.{mapOf, continue, mapOfIds}
 use Rattle.placements.specs.Listed.{whole, listed}
-use Rattle.placements.specs.Claims.{OfOneKind, graphsAgree, reverse, onPositions, imageIn, Places, MapShows, shows, idImage, idPairs, showsIds, ListingOfIds, SymmetriesListed}
+use Rattle.placements.specs.Claims.{OfOneKind, reverse, onPositions, imageIn, Places, MapShows, shows, idImage, showsIds, ListingOfIds, SymmetriesListed}
 use Rattle.placements.proofs.Tests.{all-intro, all-elim}
 use Rattle.placements.proofs.Symmetries.{identity, chained, counts-chained, reversed}
 use Rattle.placements.proofs.Renumbered.{Alike, alike₀, alike₁, renumbered-placements}
@@ -65,7 +65,7 @@ module _ (s : Settings) (g₀ g₁ : Graph) (files : OfOneKind g₀ g₁) where
   unfolding taskOf
   same-size = order-keeps-nodes (s .vf2pp) g₁
 
-  pairs-show : (path : List ℕ) → idPairs s g₀ g₁ path ≡ map (λ v. (idImage s g₀ g₁ path v, v)) order₁
+  pairs-show : (path : List ℕ) → mapOfIds s g₀ g₁ path ≡ map (λ v. (idImage s g₀ g₁ path v, v)) order₁
   pairs-show path =
       let pair : ℕ → ℕ × ℕ = λ v. (idImage s g₀ g₁ path v, v) in
       let long : length order₁ ≡ nodes (t .graph₁) = order-holds-each-once (s .vf2pp) g₁ .0 ∙ sym same-size in

@@ -6,6 +6,7 @@ use mathlib.Core.Path.{_≡_, sym, _∙_}
 use lib.Dec.{eqb, ltb}
 use lib.ListN.{length}
 use borrow.Author.Tests.{eqb-true, ltb-true, ltb-false}
+use Rattle.rules.specs.Task.{graphsAgree}
 use Rattle.lists.proofs.Tests.{case, and-left, and-right}
 use Rattle.packed.specs.Graph.{Graph, nodes}
 use Rattle.packed.specs.Settings.{Settings}
@@ -14,7 +15,7 @@ use Rattle.graph.specs.Within.{Within}
 use Rattle.graph.proofs.Walk.{within-turned, between-turned}
 use Rattle.order.specs.Claims.{labelledBetween}
 use Rattle.rules.specs.Placement.{Placement, edgesOf}
-use Rattle.placements.specs.Claims.{OfOneKind, graphsAgree}
+use Rattle.placements.specs.Claims.{OfOneKind}
 use Rattle.placements.proofs.Sums.{sum, sum-le, sum-same, sum-tight, Into}
 use Rattle.placements.proofs.Labels.{edges-compared, edges-not-compared, labels-sum, labelled-turned, labelled-none}
 use Rattle.placements.proofs.Equal.{counts-kept}

@@ -3,6 +3,7 @@ use Prim.Native.Nat.{ℕ, zero, suc, _+_}
 use mathlib.Core.Bool.{Bool, false, cond}
 use mathlib.Core.List.{List, [], _∷_, _++_}
 use mathlib.Core.Option.{Option, none, some}
+use Rattle.packed.specs.Settings.{Settings}
 use Rattle.rules.specs.Task.{Task}
 use Rattle.rules.specs.Search.{Top, Outer, Inner, Unwind, Record, accepts, step, Answer, Found, None, Limit, Paused, Went, run, continue}
 
@@ -33,21 +34,20 @@ module _ (t : Task) where
         | Limit ↦ last-call w
       ]
 
--- the same task without a limit
-abbrev pub unlimited : Task → Task
-unlimited t =
+-- the same settings, and the same task, without a limit
+abbrev pub withoutLimit : Settings → Settings
+withoutLimit s =
     record {
-      settings = record {
-        greater = t .settings .greater;
-        vf2pp = t .settings .vf2pp;
-        induced = t .settings .induced;
-        nodeLabels = t .settings .nodeLabels;
-        edgeLabels = t .settings .edgeLabels;
-        limit = none;
-      };
-      graph₀ = t .graph₀;
-      graph₁ = t .graph₁;
+      greater = s .greater;
+      vf2pp = s .vf2pp;
+      induced = s .induced;
+      nodeLabels = s .nodeLabels;
+      edgeLabels = s .edgeLabels;
+      limit = none;
     }
+
+abbrev pub unlimited : Task → Task
+unlimited t = record { settings = withoutLimit (t .settings); graph₀ = t .graph₀; graph₁ = t .graph₁ }
 
 -- the record after so many steps, the pairs that they accept, and the maps that they find
 module _ (t : Task) where

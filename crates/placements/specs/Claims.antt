@@ -1,6 +1,6 @@
 -- What is claimed of placements and of the search for them (document 01, "Placement" and "The search").
 use Prim.Native.Nat.{ℕ, zero, suc, _+_, _-_, _*_, _≤_, _<_, min}
-use mathlib.Core.Bool.{Bool, true, false, cond, _&&_}
+use mathlib.Core.Bool.{Bool, true, false, cond}
 use mathlib.Core.List.{List, [], _∷_, _++_, map}
 use mathlib.Core.Option.{some}
 use mathlib.Core.Path.{_≡_}
@@ -12,9 +12,9 @@ use Rattle.packed.specs.Refusals.{graph, reading}
 use Rattle.packed.specs.Settings.{Settings, settingsOf, badSettings}
 use Rattle.graph.specs.Within.{Within}
 use Rattle.order.specs.Order.{nodeOrder}
-use Rattle.rules.specs.Task.{Task, taskOf, agree, countsAgree, exchanged, partner}
+use Rattle.rules.specs.Task.{Task, taskOf, graphsAgree, countsAgree, exchanged, partner}
 use Rattle.rules.specs.Acceptable.{all}
-use Rattle.rules.specs.Search.{Record, started, pairsOf, imageOf, mapOf, Answer, Found, None, Limit, Paused, continue, acceptedRecord}
+use Rattle.rules.specs.Search.{Record, started, pairsOf, imageOf, mapOf, mapOfIds, Answer, Found, None, Limit, Paused, continue, acceptedRecord}
 use Rattle.rules.specs.Placement.{Placement}
 use Rattle.placements.specs.Listed.{whole, listed, stepsOf, acceptedOf}
 use Rattle.placements.specs.Calls.{Called, calls, unlimited, after, acceptedIn, foundIn}
@@ -47,11 +47,6 @@ FilesEnsure =
 -- and settings that are not refused have a limit of at most its maximum, if they have one
 abbrev pub SettingsEnsure : Type 0
 SettingsEnsure = (bytes : List ℕ) (limit : ℕ) → badSettings bytes ≡ false → settingsOf bytes .limit ≡ some limit → limit ≤ 4294967294
-
--- counts agree when the node counts, and likewise the edge counts, are equal or, under Greater, those of graph 0 are larger
-abbrev pub graphsAgree : Settings → Graph → Graph → Bool
-graphsAgree s g₀ g₁ =
-    agree (s .greater) (nodes g₀) (nodes g₁) && agree (s .greater) (length (g₀ .edges)) (length (g₁ .edges))
 
 -- Placements among themselves
 
@@ -235,17 +230,12 @@ module _ (s : Settings) (g₀ g₁ : Graph) where
   abbrev pub idImage : List ℕ → ℕ → ℕ
   idImage path = onIds s g₀ g₁ (imageIn (taskOf s g₀ g₁) path)
 
-  -- the pairs (graph-0 id, graph-1 id) of a map
-  abbrev pub idPairs : List ℕ → List (ℕ × ℕ)
-  idPairs path =
-      map (λ p. (getD (nodeOrder (s .vf2pp) g₀) (p .0) 0, getD (nodeOrder (s .vf2pp) g₁) (p .1) 0)) (mapOf (taskOf s g₀ g₁) path)
-
   abbrev pub showsIds : (ℕ → ℕ) → List ℕ → Bool
   showsIds φ path = all (λ v. eqb (idImage path v) (φ v)) (from 0 (nodes g₁))
 
   pub record ListingOfIds : Type 0 where
     -- in graph 1's node order, each with its image
-    pub pairs : (path : List ℕ) → idPairs path ≡ map (λ v. (idImage path v, v)) (nodeOrder (s .vf2pp) g₁)
+    pub pairs : (path : List ℕ) → mapOfIds s g₀ g₁ path ≡ map (λ v. (idImage path v, v)) (nodeOrder (s .vf2pp) g₁)
     pub all-place : Each (λ path. Placement s g₀ g₁ (idImage path)) (listed (taskOf s g₀ g₁))
     pub each-once : (φ : ℕ → ℕ) → Placement s g₀ g₁ φ → count (showsIds φ) (listed (taskOf s g₀ g₁)) ≡ 1
     -- whatever the limit and the record

@@ -20,10 +20,9 @@ use Rattle.packed.proofs.Accepted.{nodes-of-graph}
 use Rattle.order.specs.Paper.{written}
 use Rattle.order.proofs.Renumbered.{order-keeps-nodes}
 use Rattle.rules.specs.Task.{Task, taskOf}
-use Rattle.rules.specs.Search.{Answer, mapOf, continue}
+use Rattle.rules.specs.Search.{Answer, mapOf, continue, mapOfIds}
 use Rattle.rules.specs.Handed.{Handed, recordOf, acceptedHanded}
 use Rattle.rules.specs.Calls.{pairLines, idPairs, ContinueSays, went, wentOn, orWent, recordLines, continueSays}
-use Rattle.placements.specs.Claims as claims
 use Rattle.placements.specs.Claims.{permutations}
 use Rattle.promises.specs.Sessions.{mapIn}
 use Rattle.promises.specs.Promises.{search, LongEnough, mostSteps, refusalOf}
@@ -49,7 +48,7 @@ module _ (f₀ f₁ s : List ℕ) where
   mapBytes path = idPairs (settingsOf s) (graphOf f₀) (graphOf f₁) (mapOf t path)
 
   abbrev pub mapOfPath : List ℕ → List (ℕ × ℕ)
-  mapOfPath path = claims.idPairs (settingsOf s) (graphOf f₀) (graphOf f₁) path
+  mapOfPath path = mapOfIds (settingsOf s) (graphOf f₀) (graphOf f₁) path
 
   pub map-length : (path : List ℕ) → length (mapOf t path) ≡ nodeCount f₁
   unfolding mapOf

@@ -12,15 +12,15 @@ use Rattle.packed.specs.Graph.{Graph}
 use Rattle.packed.specs.Packed.{graphOf}
 use Rattle.packed.specs.Settings.{Settings, settingsOf}
 use Rattle.rules.specs.Task.{Task, taskOf}
-use Rattle.rules.specs.Search.{Answer, None, Limit, mapOf}
+use Rattle.rules.specs.Search.{Answer, None, Limit, mapOf, mapOfIds}
 use Rattle.rules.specs.Handed.{Handed}
 use Rattle.placements.specs.Listed.{listed, stepsOf, acceptedOf}
-use Rattle.placements.specs.Calls.{Called, unlimited}
-use Rattle.placements.specs.Claims.{called, Limited, idPairs}
+use Rattle.placements.specs.Calls.{Called, unlimited, withoutLimit}
+use Rattle.placements.specs.Claims.{called, Limited}
 use Rattle.placements.proofs.Unlimited.{pairs-same, limit-plays-no-part}
 use Rattle.placements.proofs.Listing.{limited}
 use Rattle.promises.specs.Sessions.{Map, Ending, Answered, Session, session}
-use Rattle.promises.specs.Promises.{Begins, CountsAgree, LongEnough, mapsOfRules, withoutLimit, ListsFirstMaps, WithALimit}
+use Rattle.promises.specs.Promises.{Begins, CountsAgree, LongEnough, mapsOfRules, ListsFirstMaps, WithALimit}
 use Rattle.rules.specs.Calls.{begun, orBegun}
 use Rattle.promises.proofs.Files.{begins, no-line}
 use Rattle.promises.proofs.Settings.{unlimitedBytes, unlimited-good, unlimited-settings}
@@ -35,10 +35,10 @@ unfolding mapOf
 map-same t path = rw (pairs-same t path)
 
 abbrev mapsOf : Settings → Graph → Graph → List Map
-mapsOf set g₀ g₁ = map (idPairs set g₀ g₁) (listed (taskOf set g₀ g₁))
+mapsOf set g₀ g₁ = map (mapOfIds set g₀ g₁) (listed (taskOf set g₀ g₁))
 
 module _ (set : Settings) (g₀ g₁ : Graph) where
-  pairs-unlimited : (path : List ℕ) → idPairs (withoutLimit set) g₀ g₁ path ≡ idPairs set g₀ g₁ path
+  pairs-unlimited : (path : List ℕ) → mapOfIds (withoutLimit set) g₀ g₁ path ≡ mapOfIds set g₀ g₁ path
   unfolding taskOf
   pairs-unlimited path = rw (map-same (taskOf set g₀ g₁) path)
 
@@ -49,7 +49,7 @@ module _ (set : Settings) (g₀ g₁ : Graph) where
   maps-unlimited : mapsOf (withoutLimit set) g₀ g₁ ≡ mapsOf set g₀ g₁
   maps-unlimited =
       ap (λ f. map f (listed (taskOf (withoutLimit set) g₀ g₁))) (fun-ext pairs-unlimited)
-      ∙ ap (map (idPairs set g₀ g₁)) listed-unlimited
+      ∙ ap (map (mapOfIds set g₀ g₁)) listed-unlimited
 
   steps-unlimited : stepsOf (taskOf (withoutLimit set) g₀ g₁) ≡ stepsOf (taskOf set g₀ g₁)
   unfolding taskOf

@@ -13,12 +13,12 @@ use Rattle.packed.proofs.Accepted.{nodes-of-graph}
 use Rattle.order.specs.Order.{nodeOrder}
 use Rattle.order.specs.Paper.{written}
 use Rattle.order.proofs.Once.{order-member, order-holds-each-once}
-use Rattle.rules.specs.Task.{countsAgree}
+use Rattle.rules.specs.Task.{countsAgree, graphsAgree}
 use Rattle.rules.specs.Search.{Found, None, continue}
 use Rattle.rules.specs.Handed.{Handed, recordOf, zeroBeyond}
 use Rattle.rules.specs.Calls.{filled, went, continueSays}
 use Rattle.rules.specs.Placement.{Placement}
-use Rattle.placements.specs.Claims.{graphsAgree, idImage, ListingOfIds}
+use Rattle.placements.specs.Claims.{idImage, ListingOfIds}
 use Rattle.placements.proofs.Renumbered.{renumbered-placements}
 use Rattle.placements.proofs.Listing.{no-map}
 use Rattle.placements.proofs.Ids.{listing-of-ids}

@@ -11,21 +11,21 @@ use lib.ListN.{length, getD, drop}
 use Rattle.lists.specs.Lists.{count}
 use Rattle.packed.specs.Packed.{nodeCount, graphOf}
 use Rattle.packed.specs.Refusals.{Refused, first, fileLines, reading}
-use Rattle.packed.specs.Settings.{Settings, settingsOf, settingsLines}
+use Rattle.packed.specs.Settings.{settingsOf, settingsLines}
 use Rattle.packed.specs.Paper.{numberOf, summary, readPaper}
 use Rattle.packed.specs.declared.Refusal.{Refusal}
 use Rattle.packed.specs.declared.ReadAnswer.{ReadAnswer}
 use Rattle.order.specs.Order.{nodeOrder}
 use Rattle.order.specs.Paper.{orderSays, orderPaper}
 use Rattle.order.specs.declared.OrderAnswer.{OrderAnswer}
-use Rattle.rules.specs.Task.{Task, taskOf, exchange}
-use Rattle.rules.specs.Search.{started, Answer, Found, None, Limit}
+use Rattle.rules.specs.Task.{Task, taskOf, graphsAgree, exchange}
+use Rattle.rules.specs.Search.{started, mapOfIds, Answer, Found, None, Limit}
 use Rattle.rules.specs.Handed.{Handed, handed}
 use Rattle.rules.specs.Calls.{StartSays, begun, startSays, ContinueSays, went, turnedAway, continueSays, CheckSays, yes, no, checkLines, CheckTells}
 use Rattle.rules.specs.Placement.{Placement}
 use Rattle.placements.specs.Listed.{listed}
-use Rattle.placements.specs.Calls.{unlimited, after, acceptedIn}
-use Rattle.placements.specs.Claims.{graphsAgree, Each, AtLeastOne, permutations, idPairs}
+use Rattle.placements.specs.Calls.{withoutLimit, unlimited, after, acceptedIn}
+use Rattle.placements.specs.Claims.{Each, AtLeastOne, permutations}
 use Rattle.promises.specs.Sessions.{Map, mapIn, image, shows, Ending, Answered, Session, session}
 
 -- the buffer that Continue needs
@@ -81,7 +81,7 @@ module _ (f₀ f₁ s : List ℕ) where
 
   -- the maps that the rules' search finds, from the empty path to its end, in its order
   abbrev pub mapsOfRules : List Map
-  mapsOfRules = map (idPairs (settingsOf s) (graphOf f₀) (graphOf f₁)) (listed search)
+  mapsOfRules = map (mapOfIds (settingsOf s) (graphOf f₀) (graphOf f₁)) (listed search)
 
 -- 1. Whatever the record, the budget and the limit, each map handed out is a placement; the rest of the buffer stays
 
@@ -131,17 +131,6 @@ pub record TheListing : Type 0 where
       → LongEnough f₁ buffer → continueSays f₀ f₁ s h budget buffer ≡ went None 0 h buffer
 
 -- 3. With a limit: the first maps of the listing without one, and Limit exactly where that accepts more pairs than the limit
-
-abbrev pub withoutLimit : Settings → Settings
-withoutLimit s =
-    record {
-      greater = s .greater;
-      vf2pp = s .vf2pp;
-      induced = s .induced;
-      nodeLabels = s .nodeLabels;
-      edgeLabels = s .edgeLabels;
-      limit = none;
-    }
 
 module _ (f₀ f₁ s : List ℕ) (h : Handed) (budgets buffer : List ℕ) where
   -- beside all that calls without a limit came to
