@@ -4,7 +4,7 @@ use Prim.Native.Nat.{ℕ, zero, suc, _+_, _-_, _≤_, _<_}
 use native.Mathlib.Nat.{le-refl}
 use native.Mathlib.Numerals.{add-one}
 use mathlib.Core.Bool.{Bool, true, cond}
-use mathlib.Core.Path.{_≡_, refl, sym, _∙_}
+use mathlib.Core.Path.{_≡_, sym, _∙_}
 use native.Mathlib.Omega.{arith}
 use lib.Dec.{eqb}
 use borrow.Author.Tests.{eqb-true, eqb-false, eq-eqb, ne-eqb}
@@ -85,9 +85,6 @@ sum-tight (suc n) f g h e i l =
 -- f with 0 at y
 abbrev emptied : (ℕ → ℕ) → ℕ → ℕ → ℕ
 emptied f y i = cond (eqb i y) 0 (f i)
-
-emptied-same : (f : ℕ → ℕ) (y : ℕ) → emptied f y y ≡ 0
-emptied-same f y = rw (eq-eqb y y refl)
 
 emptied-other : (f : ℕ → ℕ) (y i : ℕ) → (i ≡ y → ⊥) → emptied f y i ≡ f i
 emptied-other f y i h = rw (ne-eqb i y h)
