@@ -58,6 +58,16 @@ places-fewest n =
     let some = some-fewest n n (omega (arith, power-outgrows n)) in
     rw (places-are n (some .0) (some .1)) (some .1)
 
+-- a number below 10 ^ k has at most k digits
+pub decimal-most : (n k : ℕ) → n < 10 ^ suc k → length (decimal n) ≤ suc k
+unfolding decimal
+decimal-most n k h =
+    rw (digits-length (places n) n)
+    (case (ltb (suc k) (places n))
+    (λ t. let more : suc k < places n = ltb-true (suc k) (places n) t in
+    absurd (omega (arith, h, power-at-most (suc k) (places n - 1) (omega arith), places-fewest n .2 (omega arith))))
+    (λ t. ltb-false (suc k) (places n) t))
+
 pub decimal-is : (n p : ℕ) → Fewest 10 1 n p → decimal n ≡ digits 10 p n
 unfolding decimal
 decimal-is n p fewest = rw (places-are n p fewest)

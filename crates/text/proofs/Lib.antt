@@ -1,3 +1,4 @@
 pub mod Value
 pub mod Put
 pub mod Decimal
+pub mod Lines

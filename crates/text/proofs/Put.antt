@@ -9,13 +9,7 @@ use lib.ListN.{length, take, drop, set, length-append}
 use lib.Seq.{paste, paste-zero, length-paste, take-paste, drop-paste, append-snoc, take-length, take-append-le, take-append-add, drop-drop, set-out, set-split}
 use borrow.Author.Tests.{ltb-true, ltb-false}
 use Rattle.lists.proofs.Tests.{case}
-use Rattle.text.specs.Text.{put, Puts}
-
-pub put-fits : (text : List ℕ) (at : ℕ) (bytes : List ℕ) → at + length bytes ≤ length text
-    → put text at bytes ≡ take at text ++ bytes ++ drop (at + length bytes) text
-put-fits text at bytes h =
-    let all : min (length bytes) (length text - at) ≡ length bytes = omega arith in
-    rw (all, take-length bytes)
+use Rattle.text.specs.Text.{put, Puts, PutsWhole}
 
 pub put-length : (text : List ℕ) (at : ℕ) (bytes : List ℕ) → at ≤ length text → length (put text at bytes) ≡ length text
 put-length text at bytes h = length-paste text at bytes (min (length bytes) (length text - at)) (omega arith) (omega arith)
@@ -79,6 +73,12 @@ pub puts-none : (text : List ℕ) (at : ℕ) → at ≤ length text → Puts tex
 puts-none text at h =
     let none : min 0 (length text - at) ≡ 0 = omega arith in
     record { holds = rw none (paste-zero text at []); ends = omega arith }
+
+-- a text that ends before the buffer does has all of the bytes
+pub puts-whole : {text bytes after : List ℕ} {at end : ℕ} → end < length text → Puts text at bytes after end → PutsWhole text at bytes after end
+puts-whole {text} {bytes} {after} {at} h p =
+    let all : min (length bytes) (length text - at) ≡ length bytes = omega (arith, p .ends) in
+    record { holds = p .holds ∙ rw (all, take-length bytes); ends = omega (arith, p .ends) }
 
 -- the parts of one more
 pub parts-more : (part : ℕ → List ℕ) (numbers : List ℕ) (n : ℕ) → flatMap part (numbers ++ (n ∷ [])) ≡ flatMap part numbers ++ part n

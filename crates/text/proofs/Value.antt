@@ -1,11 +1,10 @@
 -- A digit's value, by where its character lies.
-use Prim.Native.Nat.{ℕ, _+_, _-_, _≤_, _<_}
+use Prim.Native.Nat.{ℕ, _-_, _≤_}
 use mathlib.Core.Bool.{false, true, _&&_}
-use mathlib.Core.Path.{_≡_, _∙_}
+use mathlib.Core.Path.{_≡_}
 use native.Mathlib.Omega.{arith}
-use lib.Dec.{leb, ltb}
-use borrow.Author.Tests.{leb-true, le-leb, ltb-true, ltb-false}
-use Rattle.io.specs.Digits.{glyph}
+use lib.Dec.{leb}
+use borrow.Author.Tests.{leb-true, le-leb}
 use Rattle.lists.proofs.Tests.{case}
 use Rattle.text.specs.Text.{valueOf}
 
@@ -27,12 +26,3 @@ value-of-letter c l h = rw (outside 48 57 c (λ p q. omega arith), within 97 102
 pub value-of-none : (c : ℕ) → (48 ≤ c → c ≤ 57 → ⊥) → (97 ≤ c → c ≤ 102 → ⊥) → valueOf c ≡ 16
 unfolding valueOf
 value-of-none c no-number no-letter = rw (outside 48 57 c no-number, outside 97 102 c no-letter)
-
--- a digit's value is the number that `io::hex` writes as that digit
-pub value-of-glyph : (d : ℕ) → d < 16 → valueOf (glyph d) ≡ d
-value-of-glyph d h =
-    case (ltb d 10)
-    (λ t. let small : d < 10 = ltb-true d 10 t in
-    rw t (value-of-number (48 + d) (omega arith) (omega arith) ∙ omega arith))
-    (λ t. let large : 10 ≤ d = ltb-false d 10 t in
-    rw t (value-of-letter (87 + d) (omega arith) (omega arith) ∙ omega arith))

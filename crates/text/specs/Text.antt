@@ -1,10 +1,10 @@
 -- Text in a buffer, and what digits in it spell.
 use Prim.Native.Nat.{ℕ, zero, suc, _+_, _*_, _-_, _/_, _^_, _<_, min}
 use mathlib.Core.Bool.{cond, _&&_}
-use mathlib.Core.List.{List, _∷_, _++_, map, flatMap}
+use mathlib.Core.List.{List, [], _∷_, _++_, map, flatMap}
 use mathlib.Core.Path.{_≡_}
 use lib.Dec.{leb, ltb}
-use lib.ListN.{length, getD}
+use lib.ListN.{length, getD, take, drop}
 use lib.Seq.{paste}
 use Rattle.io.specs.Digits.{digits}
 use Rattle.lists.specs.Lists.{from, any, count}
@@ -17,6 +17,15 @@ put text at bytes = paste text at bytes (min (length bytes) (length text - at))
 pub record Puts (text : List ℕ) (at : ℕ) (bytes after : List ℕ) (end : ℕ) : Type 0 where
   pub holds : after ≡ put text at bytes
   pub ends : end ≡ min (at + length bytes) (length text)
+
+-- the buffer with all of the bytes from a place on
+abbrev pub putWhole : List ℕ → ℕ → List ℕ → List ℕ
+putWhole text at bytes = take at text ++ bytes ++ drop (at + length bytes) text
+
+-- all of the bytes are put into the buffer from a place on; the text then goes to `end`
+pub record PutsWhole (text : List ℕ) (at : ℕ) (bytes after : List ℕ) (end : ℕ) : Type 0 where
+  pub holds : after ≡ putWhole text at bytes
+  pub ends : end ≡ at + length bytes
 
 -- how many decimal digits a number has
 unfoldable pub places : ℕ → ℕ
@@ -45,6 +54,14 @@ pairAt bytes i = pair (getD bytes (2 * i) 0) (getD bytes (2 * i + 1) 0)
 -- `map` and the pairs
 abbrev pub mapText : List ℕ → List ℕ
 mapText bytes = 109 ∷ 97 ∷ 112 ∷ flatMap (pairAt bytes) (from 0 (length bytes / 2))
+
+-- a map and a line feed
+abbrev pub mapLine : List ℕ → List ℕ
+mapLine bytes = mapText bytes ++ 10 ∷ []
+
+-- a name, two numbers and a line feed
+abbrev pub lastLine : List ℕ → ℕ → ℕ → List ℕ
+lastLine name a b = name ++ field a ++ field b ++ 10 ∷ []
 
 -- the value of a hexadecimal digit, `0` to `9` or `a` to `f`; 16 of any other character
 unfoldable pub valueOf : ℕ → ℕ

@@ -1,5 +1,5 @@
 -- `list::list_prepared` is safe and ends. At the loop's head the search stands for any two graphs of which these are the tables, and the
--- text ends within the page; the measure is the number of turns that are left.
+-- page has room for the last line; the measure is the number of turns that are left.
 use Prim.Native.Nat.{_≤_}
 use mathlib.Core.Bool.{true}
 use mathlib.Core.Path.{_≡_, refl, sym, _∙_, ap}
@@ -22,7 +22,7 @@ use Rattle.list.proofs.list_prepared.Tie as tie
 
 abbrev Inv-loop : tie.InvT-loop
 Inv-loop order0 matrix0 words0 labels0 n0 edges0 order1 matrix1 words1 labels1 n1 edges1 k set page₀ bytes₀ p₀ t₀ count₀ progress₀ turns₀ page bytes p t count progress turns =
-    (progress .at ≤ 65536)
+    (progress .at ≤ 65028)
     × (32768 ≡ length bytes)
     × ((g₀ g₁ : Graph)
     → TablesFor (settingsIn set) k order0 (arrays n0 edges0 matrix0 words0 labels0) order1 (arrays n1 edges1 matrix1 words1 labels1) g₀ g₁

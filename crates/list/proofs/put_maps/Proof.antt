@@ -1,4 +1,4 @@
--- `list::put_maps` meets its contract. At the loop's head the text ends within the page.
+-- `list::put_maps` meets its contract. At the loop's head there is room for the last line.
 use Prim.Native.Nat.{ℕ, suc, _+_, _*_, _-_, _≤_, _<_}
 use native.Mathlib.Nat.{mul-le-mul-right}
 use native.Mathlib.Omega.{arith}
@@ -7,7 +7,7 @@ use Rattle.list.proofs.put_maps.Statement.{statement}
 use Rattle.list.proofs.put_maps.Tie as tie
 
 abbrev Inv-loop : tie.InvT-loop
-Inv-loop page₀ from bytes maps pairs at₀ i₀ page at i = (i ≤ maps) × (at ≤ 65536)
+Inv-loop page₀ from bytes maps pairs at₀ i₀ page at i = (i ≤ maps) × (at ≤ 65028)
 
 abbrev μ-loop : tie.MeasureT-loop
 μ-loop page₀ from bytes maps pairs at₀ i₀ page at i = maps - i
@@ -40,7 +40,8 @@ put-line-requires : tie.Need-put-line-requires Inv-loop μ-loop
 put-line-requires c κs =
     let l = c .before .before .before .before .before .before in
     let a = l .before .args in
-    (omega arith, within (l .loop .i) (a .maps) (a .pairs) (omega arith) (l .before .pre .1 .0) (l .before .pre .1 .1))
+    let few = l .before .pre .1 in
+    (omega arith, (few .1, within (l .loop .i) (a .maps) (a .pairs) (omega arith) (few .0) (few .1)))
 
 add-i : tie.Need-add-i Inv-loop μ-loop
 add-i c = search needs

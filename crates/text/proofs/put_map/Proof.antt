@@ -11,6 +11,7 @@ use Rattle.lists.specs.Lists.{from}
 use Rattle.lists.proofs.Laws.{from-none, from-more}
 use Rattle.text.specs.Text.{Puts, pairAt}
 use Rattle.text.proofs.Put.{puts-length, puts-none, puts-then, parts-none, parts-more}
+use Rattle.text.proofs.Lines.{map-text-most}
 use Rattle.text.proofs.put_map.Statement.{statement}
 use Rattle.text.proofs.put_map.Tie as tie
 
@@ -80,7 +81,9 @@ returns c =
     let map = c .before .before .before .before .before .before .before .before .before .args .map .now in
     let word = c .before .before .before .before .put-bytes .ensures in
     let all : l .i ≡ length map / 2 = omega arith in
-    puts-then {first = 109 ∷ 97 ∷ 112 ∷ []} (omega arith) (record { holds = word .1; ends = word .0 }) (rw all at (l .inv .3))
+    let known = c .before .before .before .before .before .before .before .shared-slice-known .given in
+    let put = puts-then {first = 109 ∷ 97 ∷ 112 ∷ []} (omega arith) (record { holds = word .1; ends = word .0 }) (rw all at (l .inv .3)) in
+    (put, omega (arith, put .ends, map-text-most map (λ i. omega (arith, known i))))
 
 pub put-map-spec : {M : Type 1} → statement M
 put-map-spec =
