@@ -1,33 +1,16 @@
 """The cases of the bench: boards and blocks that are made anew each time, the same ones."""
 import random as randoms
 
-from graphs import Graph
-from searches import Settings
-
-
-def plain(directed, n, pairs):
-    return Graph(directed, [0] * n, [(a, b, 0) for a, b in pairs])
-
-
-def grid_edges(rows, columns):
-    right = [(v, v + 1) for v in range(rows * columns) if (v + 1) % columns]
-    return right + [(v, v + columns) for v in range((rows - 1) * columns)]
-
-
-def path(n):
-    return [(v, v + 1) for v in range(n - 1)]
-
-
-def ring(n):
-    return [(v, (v + 1) % n) for v in range(n)]
+from packed import Graph, Settings
+from shapes import grid, path, plain, ring
 
 
 def complete(n):
     return [(a, b) for b in range(n) for a in range(b)]
 
 
-def grid(rows, columns):
-    return plain(False, rows * columns, grid_edges(rows, columns))
+def grid_board(rows, columns):
+    return plain(False, rows * columns, grid(rows * columns, columns))
 
 
 def random_board(directed, nodes, edges, seed):
@@ -36,7 +19,7 @@ def random_board(directed, nodes, edges, seed):
 
 
 def grid_path(rows=8, columns=16):
-    return grid(rows, columns), plain(False, 8, path(8)), Settings()
+    return grid_board(rows, columns), plain(False, 8, path(8)), Settings()
 
 
 def full_board(edges=1024):
@@ -55,7 +38,7 @@ def ring_on_itself():
 
 def absent():
     """A ring of nine is not on a grid, whose rings are all even."""
-    return grid(8, 16), plain(False, 9, ring(9)), Settings()
+    return grid_board(8, 16), plain(False, 9, ring(9)), Settings()
 
 
 def circuit(parts):

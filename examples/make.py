@@ -11,18 +11,15 @@ import sys
 HERE = pathlib.Path(__file__).resolve().parent
 sys.path.insert(0, str(HERE.parent / "tests"))
 
-from graphs import Graph, pack  # noqa: E402
 from pack import BOTH, circuit  # noqa: E402
-from searches import Settings, pack_settings, rust_listings  # noqa: E402
+from packed import Settings, pack_search, write_search  # noqa: E402
+from searches import rust_listings  # noqa: E402
+from shapes import path, plain  # noqa: E402
 
 
 def drawn(text):
     graph, _ = circuit(text)
     return graph
-
-
-def path(nodes):
-    return Graph(False, [0] * nodes, [(v, v + 1, 0) for v in range(nodes - 1)])
 
 
 def mesh(rows, columns):
@@ -67,7 +64,7 @@ C1 out in
 """
 
 EXAMPLES = {
-    "worked": (path(3), path(2), Settings()),
+    "worked": (plain(False, 3, path(3)), plain(False, 2, path(2)), Settings()),
     "filter-chain": (drawn(CHAIN), drawn(SECTION), BOTH),
     "bridge-in-mesh": (drawn(mesh(3, 3)), drawn(BRIDGE), Settings(node_labels=True)),
     "looks-present": (drawn(SUPPLY), drawn(SECTION), BOTH),
@@ -77,12 +74,11 @@ EXAMPLES = {
 
 def main():
     oracle, = sys.argv[1:]
-    files = [(pack(board), pack(block), pack_settings(settings)) for board, block, settings in EXAMPLES.values()]
+    files = [pack_search(*example) for example in EXAMPLES.values()]
     for name, parts, answer in zip(EXAMPLES, files, rust_listings(oracle, files)):
         folder = HERE / name
         folder.mkdir(exist_ok=True)
-        for file, data in zip(("g0.bin", "g1.bin", "settings.bin"), parts):
-            folder.joinpath(file).write_bytes(data)
+        write_search(folder, parts)
         listing, _, _ = answer.rpartition("steps ")
         folder.joinpath("listing").write_text(listing)
 

@@ -14,8 +14,7 @@ import sys
 HERE = pathlib.Path(__file__).resolve().parent
 sys.path.insert(0, str(HERE.parent / "tests"))
 
-from graphs import MAX_EDGES, MAX_NODES, Graph, pack  # noqa: E402
-from searches import Settings, pack_settings  # noqa: E402
+from packed import MAX_EDGE_LABEL, MAX_EDGES, MAX_NODE_LABEL, MAX_NODES, Graph, Settings, pack_search, write_search  # noqa: E402
 
 KINDS = {"R": 1, "C": 2, "L": 3}
 NET = 0
@@ -48,22 +47,20 @@ def read(path):
         raise SystemExit(f"pack.py: {path}: {error}")
     if MAX_NODES < len(graph.labels) or MAX_EDGES < len(graph.edges):
         raise SystemExit(f"pack.py: {path}: more than {MAX_NODES} nodes or {MAX_EDGES} pins")
-    if not all(0 <= each <= 4095 for each in graph.labels) or not all(pin <= 63 for *_, pin in graph.edges):
-        raise SystemExit(f"pack.py: {path}: a label outside 0 to 4095 or a pin above 63")
+    if not all(0 <= each <= MAX_NODE_LABEL for each in graph.labels) or not all(pin <= MAX_EDGE_LABEL for *_, pin in graph.edges):
+        raise SystemExit(f"pack.py: {path}: a label outside 0 to {MAX_NODE_LABEL} or a pin above {MAX_EDGE_LABEL}")
     return graph, names
 
 
 def main():
     if len(sys.argv) != 4:
         raise SystemExit("pack.py: examples/pack.py BOARD BLOCK FOLDER")
-    board, block, folder = sys.argv[1:]
-    place = pathlib.Path(folder)
-    circuits = [("g0.bin", "board", *read(board)), ("g1.bin", "block", *read(block))]
-    place.mkdir(parents=True, exist_ok=True)
-    for file, side, graph, names in circuits:
-        place.joinpath(file).write_bytes(pack(graph))
+    (board, board_names), (block, block_names) = read(sys.argv[1]), read(sys.argv[2])
+    folder = pathlib.Path(sys.argv[3])
+    folder.mkdir(parents=True, exist_ok=True)
+    write_search(folder, pack_search(board, block, BOTH))
+    for side, names in (("board", board_names), ("block", block_names)):
         print(side, " ".join(f"{node}={name}" for node, name in enumerate(names)))
-    place.joinpath("settings.bin").write_bytes(pack_settings(BOTH))
 
 
 if __name__ == "__main__":

@@ -8,7 +8,10 @@ prints how many cases there were and how many differed, and the smallest graph t
 import argparse
 import random as randoms
 
-from graphs import MAX_BUFFER, Graph, case, order_line, pack, random_graph, run, rust_orders
+from graphs import MAX_BUFFER, case, order_line, run, rust_orders
+from packed import Graph, pack
+from random_graphs import random_graph
+from shapes import plain
 
 BATCH = 1000
 
@@ -42,9 +45,9 @@ def smaller(graph):
     last = len(labels) - 1
     if last >= 0 and all(last not in edge[:2] for edge in edges):
         yield Graph(directed, labels[:-1], edges)
-    plain = Graph(directed, [0] * len(labels), [(a, b, 0) for a, b, _ in edges])
-    if plain != graph:
-        yield plain
+    unlabelled = plain(directed, len(labels), [(a, b) for a, b, _ in edges])
+    if unlabelled != graph:
+        yield unlabelled
 
 
 def smallest(oracle, replay, difference):

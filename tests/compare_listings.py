@@ -8,29 +8,16 @@ Start and Continue by the program `relist`, with one budget for all calls, and, 
 """
 import argparse
 import os
-import pathlib
 import random as randoms
 import subprocess
 import tempfile
 
-from graphs import Graph, pack, random_graph, run
-from searches import listing_case, pack_settings, random_settings, rust_listings
+from graphs import run
+from packed import MAX_LIMIT, Graph, Settings, pack_search, write_search
+from random_graphs import part_of, random_graph
+from searches import listing_case, rust_listings
 
 BATCH = 500
-
-
-def part_of(random, board, size):
-    """Some nodes of the board with most of the edges between them, renumbered: a block that is there, or nearly."""
-    nodes = random.sample(range(len(board.labels)), min(size, len(board.labels)))
-    place = {v: i for i, v in enumerate(nodes)}
-    kept = random.choice([1, 1, 0.8, 0.5])
-    edges = [
-        random.choice([(place[a], place[b], label)] + [(place[b], place[a], label)] * (not board.directed))
-        for a, b, label in board.edges
-        if a in place and b in place and random.random() < kept
-    ]
-    random.shuffle(edges)
-    return Graph(board.directed, [board.labels[v] for v in nodes], edges)
 
 
 def random_pair(random):
@@ -46,17 +33,25 @@ def random_pair(random):
     return board, Graph(board.directed, block.labels, block.edges)
 
 
+def random_settings(random, small):
+    """Any settings; a search that need not be small gets a limit."""
+    switches = [random.random() < 0.5 for _ in range(4)]
+    limit = random.choice([None, None, None, random.randint(0, 30), MAX_LIMIT])
+    if not small and limit is None:
+        limit = random.randint(0, 300)
+    return Settings(random.random() < 0.7, *switches, limit)
+
+
 def random_case(random):
     board, block = random_pair(random)
     settings = random_settings(random, small=len(board.labels) <= 8)
     budget = random.choice([65535, 65535, random.randint(1, 40)])
-    return pack(board), pack(block), pack_settings(settings), budget
+    return *pack_search(board, block, settings), budget
 
 
 def listed(program, folder, case):
     """What the listing program prints for the case."""
-    for name, data in zip(("g0.bin", "g1.bin", "settings.bin"), case):
-        folder.joinpath(name).write_bytes(data)
+    write_search(folder, case)
     return subprocess.run([program], cwd=folder, stdout=subprocess.PIPE, text=True).stdout
 
 
@@ -89,7 +84,7 @@ def main():
     with tempfile.TemporaryDirectory() as folder:
         while left:
             cases = [random_case(random) for _ in range(min(BATCH, left))]
-            more, some_maps, some_steps = differences(given, pathlib.Path(folder), cases)
+            more, some_maps, some_steps = differences(given, folder, cases)
             found, maps, steps = found + more, maps + some_maps, steps + some_steps
             left -= len(cases)
     print(f"seed {given.seed}: {given.count} pairs of graphs, {maps} maps, {steps} steps, {len(found)} differ")

@@ -14,11 +14,11 @@ from collections import Counter
 
 import order_model
 import search_model as model
-from graphs import FILL, case, pack, random_graph, run
-from compare_listings import part_of
+from graphs import FILL, case, run
 from make_searches import checked, continued, started
+from packed import MAX_LIMIT, Settings, pack, pack_search
+from random_graphs import part_of, random_graph
 from search_model import Record, Refused
-from searches import Settings, pack_settings
 
 BATCH = 2000
 MAX_SETTINGS = 16  # the most that relist takes in a case
@@ -105,12 +105,9 @@ def some_record(random, file0, file1, settings):
 
 
 def search_case(random, board, block):
-    file0, file1 = pack(board), pack(block)
-    settings = pack_settings(Settings(*(random.random() < 0.5 for _ in range(5)), random.choice([None, None, 0, 1, 5, 4294967294])))
-    sound = file0, file1, settings
-    file0, file1, settings = (
-        perhaps(random, each, other, 0.15) for each, other in ((file0, file1), (file1, file0), (settings, file0))
-    )
+    switches = [random.random() < 0.5 for _ in range(5)]
+    sound = pack_search(board, block, Settings(*switches, random.choice([None, None, 0, 1, 5, MAX_LIMIT])))
+    file0, file1, settings = (perhaps(random, sound[each], sound[other], 0.15) for each, other in ((0, 1), (1, 0), (2, 0)))
     settings = settings[:MAX_SETTINGS]
     call = random.randrange(4)
     if call == 0:

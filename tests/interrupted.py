@@ -16,16 +16,16 @@ import tempfile
 sys.path.insert(0, str(pathlib.Path(__file__).resolve().parent.parent / "bench"))
 
 from cases import absent, grid_path  # noqa: E402
-from graphs import pack, run  # noqa: E402
-from searches import listing_case, pack_settings  # noqa: E402
+from graphs import run  # noqa: E402
+from packed import pack_search, write_search  # noqa: E402
+from searches import listing_case  # noqa: E402
 
 BUDGET = 65535
 
 
 def one_run(program, files):
     with tempfile.TemporaryDirectory() as folder:
-        for name, data in zip(("g0.bin", "g1.bin", "settings.bin"), files):
-            pathlib.Path(folder, name).write_bytes(data)
+        write_search(folder, files)
         return subprocess.run([program], cwd=folder, stdout=subprocess.PIPE, text=True, check=True).stdout
 
 
@@ -35,8 +35,7 @@ def main():
     words.add_argument("--list", required=True)
     given = words.parse_args()
     for name, case in (("path of 8", grid_path), ("ring of 9", absent)):
-        board, block, settings = case()
-        files = pack(board), pack(block), pack_settings(settings)
+        files = pack_search(*case())
         listing, _, counted = run([given.relist], listing_case(*files, budget=BUDGET)).rpartition("steps ")
         steps = int(counted.split()[0])
         same = listing == one_run(os.path.abspath(given.list), files)

@@ -10,8 +10,11 @@ import random as randoms
 import sys
 from pathlib import Path
 
-from graphs import Graph, as_bytes, case, fields, order_line, pack, random_graph, rust_orders, whole_buffer
+from graphs import case, order_line, rust_orders, whole_buffer
 from order_model import WRONG, vf2pp
+from packed import Graph, as_bytes, fields, pack
+from random_graphs import random_graph
+from shapes import path, plain, ring
 
 REPLAY = Path(__file__).resolve().parent.parent / "crates" / "replay"
 
@@ -47,10 +50,6 @@ def read(file):
 
 
 # The graphs whose orders are listed.
-
-
-def graph(directed, n, edges):
-    return Graph(directed, [0] * n, [(*edge, 0)[:3] for edge in edges])
 
 
 DIRECTED = [
@@ -94,7 +93,7 @@ def told_apart():
     told, graphs = set(), []
     for directed, rows in ((True, DIRECTED), (False, UNDIRECTED)):
         for n, edges, readings in rows:
-            made = graph(directed, n, edges)
+            made = plain(directed, n, edges)
             for reading in readings:
                 if vf2pp(made, **WRONG[reading]) == vf2pp(made):
                     raise SystemExit(f"{made} does not tell: {reading}")
@@ -107,31 +106,31 @@ def told_apart():
 
 def shapes(directed):
     """Small graphs with many ties: points, loops, parallel edges, paths, stars, cycles, complete graphs, a grid, a tree."""
-    petersen = [(v, (v + 1) % 5) for v in range(5)] + [(v, v + 5) for v in range(5)] + [(5 + v, 5 + (v + 2) % 5) for v in range(5)]
+    petersen = ring(5) + [(v, v + 5) for v in range(5)] + [(5 + v, 5 + (v + 2) % 5) for v in range(5)]
     return [
-        graph(directed, 0, []),
-        graph(directed, 1, []),
-        graph(directed, 1, [(0, 0)]),
-        graph(directed, 1, [(0, 0, j % 64) for j in range(1024)]),
-        graph(directed, 2, []),
-        graph(directed, 2, [(0, 1)]),
-        graph(directed, 2, [(1, 0)]),
-        graph(directed, 3, [(0, 1), (1, 2)]),
-        graph(directed, 2, [(0, 1)] * 3 + [(1, 0)] * 2),
-        graph(directed, 2, [(0, 1, 5), (0, 1, 7), (1, 1, 7)]),
-        graph(directed, 6, [(v, v + 1) for v in range(5)]),
-        graph(directed, 6, [(v + 1, v) for v in range(5)]),
-        graph(directed, 7, [(0, v) for v in range(1, 7)]),
-        graph(directed, 7, [(v, 6) for v in range(6)]),
-        graph(directed, 8, [(v, (v + 1) % 8) for v in range(8)]),
-        graph(directed, 9, [(v, v - v % 3 + (v + 1) % 3) for v in range(9)]),
-        graph(directed, 7, [(a, b) for a in range(7) for b in range(7) if a != b]),
-        graph(directed, 7, [(a, b) for a in range(3) for b in range(3, 7)]),
-        graph(directed, 10, petersen),
-        graph(directed, 16, [(v, w) for v in range(16) for w in (v + 1, v + 4) if w < 16 and (w != v + 1 or w % 4)]),
-        graph(directed, 15, [((v - 1) // 2, v) for v in range(1, 15)]),
-        graph(directed, 12, [(v, v) for v in range(0, 12, 2)]),
-        graph(directed, 12, [(11, 10), (10, 9), (3, 2), (2, 3), (5, 5)]),
+        plain(directed, 0, []),
+        plain(directed, 1, []),
+        plain(directed, 1, [(0, 0)]),
+        plain(directed, 1, [(0, 0, j % 64) for j in range(1024)]),
+        plain(directed, 2, []),
+        plain(directed, 2, [(0, 1)]),
+        plain(directed, 2, [(1, 0)]),
+        plain(directed, 3, [(0, 1), (1, 2)]),
+        plain(directed, 2, [(0, 1)] * 3 + [(1, 0)] * 2),
+        plain(directed, 2, [(0, 1, 5), (0, 1, 7), (1, 1, 7)]),
+        plain(directed, 6, path(6)),
+        plain(directed, 6, [(v + 1, v) for v in range(5)]),
+        plain(directed, 7, [(0, v) for v in range(1, 7)]),
+        plain(directed, 7, [(v, 6) for v in range(6)]),
+        plain(directed, 8, ring(8)),
+        plain(directed, 9, [(v, v - v % 3 + (v + 1) % 3) for v in range(9)]),
+        plain(directed, 7, [(a, b) for a in range(7) for b in range(7) if a != b]),
+        plain(directed, 7, [(a, b) for a in range(3) for b in range(3, 7)]),
+        plain(directed, 10, petersen),
+        plain(directed, 16, [(v, w) for v in range(16) for w in (v + 1, v + 4) if w < 16 and (w != v + 1 or w % 4)]),
+        plain(directed, 15, [((v - 1) // 2, v) for v in range(1, 15)]),
+        plain(directed, 12, [(v, v) for v in range(0, 12, 2)]),
+        plain(directed, 12, [(11, 10), (10, 9), (3, 2), (2, 3), (5, 5)]),
     ]
 
 
@@ -144,7 +143,7 @@ def exactly(random, directed, n, edges):
 def chosen_graphs(random):
     graphs = told_apart() + shapes(True) + shapes(False)
     for directed in (True, False):
-        graphs += [graph(directed, 127, []), graph(directed, 128, []), graph(directed, 128, [(127, 126)])]
+        graphs += [plain(directed, 127, []), plain(directed, 128, []), plain(directed, 128, [(127, 126)])]
         graphs += [exactly(random, directed, 128, 1024), exactly(random, directed, 127, 1023)]
     graphs += [exactly(random, True, 128, 1023), exactly(random, False, 127, 1024)]
     graphs += [random_graph(random, 24, 60) for _ in range(50)]
@@ -169,11 +168,11 @@ def order_cases(random, oracle):
 
 def zeros(kind, n, edges):
     """A file of the right length with zero labels and edges from 0 to 0."""
-    return as_bytes(fields(kind, n, edges, [0] * n, [(0, 0, 0)] * edges))
+    return with_edges(kind, n, [(0, 0)] * edges)
 
 
 def with_edges(kind, n, edges):
-    return as_bytes(fields(kind, n, len(edges), [0] * n, edges))
+    return pack(plain(kind, n, edges))
 
 
 def with_bit(file, bit):

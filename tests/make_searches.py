@@ -12,24 +12,22 @@ import random as randoms
 import sys
 
 import search_model as model
-from graphs import FILL, Graph, grid, pack, random_graph
+from graphs import FILL
+from packed import MAX_LIMIT, Graph, Settings, pack, pack_search, read_search
 from search_model import Record, Refused
-from searches import Settings, listing_case, node_count, pack_settings, rust_listings, search_case
+from searches import listing_case, rust_listings, search_case
+from shapes import grid, path, plain, ring
 
 ROOT = pathlib.Path(__file__).resolve().parent.parent
 CRATE = ROOT / "crates" / "relist"
 
 
-def plain(directed, n, pairs):
-    return Graph(directed, [0] * n, [(a, b, 0) for a, b in pairs])
-
-
-PATH3 = plain(False, 3, [(0, 1), (1, 2)])
-EDGE = plain(False, 2, [(0, 1)])
+PATH3 = plain(False, 3, path(3))
+EDGE = plain(False, 2, path(2))
 TRIANGLE = plain(False, 3, [(0, 1), (1, 2), (0, 2)])
-CYCLE3 = plain(True, 3, [(0, 1), (1, 2), (2, 0)])
+CYCLE3 = plain(True, 3, ring(3))
 TWO_EDGES = plain(True, 2, [(0, 1), (0, 1)])
-ARC = plain(True, 2, [(0, 1)])
+ARC = plain(True, 2, path(2))
 LOOP = plain(True, 1, [(0, 0)])
 FIVE_SEVEN = Graph(True, [0, 0], [(0, 1, 5), (0, 1, 7)])
 
@@ -75,17 +73,16 @@ def switches():
 def large(random):
     """N 128 with E 1,024, and 128 nodes in a grid."""
     for directed in (False, True):
-        ring = [(v, (v + jump) % 128) for jump in range(1, 9) for v in range(128)]
+        rings = [(v, (v + jump) % 128) for jump in range(1, 9) for v in range(128)]
         labels = [random.randrange(4096) for _ in range(128)]
-        board = Graph(directed, labels, [(a, b, random.randrange(64)) for a, b in ring])
+        board = Graph(directed, labels, [(a, b, random.randrange(64)) for a, b in rings])
         block = Graph(directed, labels[3:8], [(a - 3, b - 3, l) for a, b, l in board.edges if 3 <= a < 8 and 3 <= b < 8])
         yield board, block, Settings(True, False, False, True, True)
         yield board, block, Settings(True, True, True, True, True)
         yield board, board, Settings(False, True, True, True, True)
     yield plain(False, 128, []), plain(False, 1, []), Settings()
-    eight = plain(False, 128, [(v, v + 1) for v in range(127) if (v + 1) % 16] + [(v, v + 16) for v in range(112)])
-    yield eight, plain(False, 4, [(0, 1), (1, 2), (2, 3), (3, 0)]), Settings(limit=400)
-    yield plain(False, 128, [(v, (v + 1) % 128) for v in range(128)]), plain(False, 128, [(v, (v + 1) % 128) for v in range(128)]), Settings(False, True, limit=300)
+    yield plain(False, 128, grid(128, 16)), plain(False, 4, ring(4)), Settings(limit=400)
+    yield plain(False, 128, ring(128)), plain(False, 128, ring(128)), Settings(False, True, limit=300)
 
 
 def listings(random):
@@ -94,7 +91,7 @@ def listings(random):
         for board, block in pieces(directed):
             yield from ((board, block, each) for each in switches() if random.random() < 0.75)
     for board, block in [(PATH3, EDGE), (TRIANGLE, PATH3), (CYCLE3, CYCLE3)]:
-        yield from ((board, block, Settings(limit=limit)) for limit in [*range(0, 24), 4294967294])
+        yield from ((board, block, Settings(limit=limit)) for limit in [*range(0, 24), MAX_LIMIT])
     yield from large(random)
 
 
@@ -189,21 +186,21 @@ def damaged(record, nodes0, nodes1):
 
 def records():
     for board, block, settings in [(PATH3, EDGE, Settings()), (CYCLE3, CYCLE3, Settings(False, True, True)), (TRIANGLE, PATH3, Settings(limit=3))]:
-        files = pack(board), pack(block), pack_settings(settings)
+        files = pack_search(board, block, settings)
         size = 2 * len(block.labels)
         for i, record in enumerate(passed(*files)):
             yield continued(*files, record, (0, 1, 2, 7, 65535)[i % 5], size + (0, 0, 3)[i % 3])
             if i % 4 == 1:
                 yield from (continued(*files, each, 3, size) for each in damaged(record, len(board.labels), len(block.labels)))
-    files = pack(PATH3), pack(EDGE), pack_settings(Settings())
+    files = pack_search(PATH3, EDGE, Settings())
     yield from (continued(*files, Record(), 5, size) for size in (0, 1, 3, 4, 5, 9))
-    unlike = pack(EDGE), pack(PATH3), pack_settings(Settings())
+    unlike = pack_search(EDGE, PATH3, Settings())
     yield from (continued(*unlike, each, 5, 6) for each in (Record(), Record(top=("unwind",)), Record(top=("inner", 0)), Record(1, bytes([1]) + bytes(127), ("outer",), 1)))
 
 
 def refusals():
     """Each number in its turn, for each call, with later ones waiting behind it."""
-    good, block, settings = pack(PATH3), pack(EDGE), pack_settings(Settings())
+    good, block, settings = pack_search(PATH3, EDGE, Settings())
     files = [
         b"",
         good[:2],
@@ -244,13 +241,12 @@ def smallest():
 
 def examples():
     """The files of each folder of examples/."""
-    for folder in sorted(path.parent for path in ROOT.joinpath("examples").glob("*/g0.bin")):
-        yield tuple(folder.joinpath(name).read_bytes() for name in ("g0.bin", "g1.bin", "settings.bin"))
+    return [read_search(file.parent) for file in sorted(ROOT.glob("examples/*/g0.bin"))]
 
 
 def checks(random):
     for board, block, settings in [*small_graphs(), *((b, k, s) for d in (False, True) for b, k in pieces(d) for s in switches() if random.random() < 0.2)]:
-        files = pack(board), pack(block), pack_settings(settings)
+        files = pack_search(board, block, settings)
         n0, n1 = len(board.labels), len(block.labels)
         images = itertools.product(range(n0 + 1), repeat=n1) if (n0 + 1) ** n1 <= 30 else (random.choices(range(n0), k=n1) for _ in range(3))
         yield from (checked(*files, each) for each in images)
@@ -289,17 +285,17 @@ def listed(oracle, tasks):
 def main():
     oracle, = sys.argv[1:]
     random = randoms.Random(20261115)
-    tasks = [(pack(board), pack(block), pack_settings(settings)) for board, block, settings in listings(random)]
+    tasks = [pack_search(*each) for each in listings(random)]
     cases = [*listed(oracle, tasks)]
     for board, block, settings in pausing():
-        files = pack(board), pack(block), pack_settings(settings)
+        files = pack_search(board, block, settings)
         answer, = rust_listings(oracle, [files])
         steps = int(answer.split()[-2])
         cases += [(listing_case(*files, budget=budget), answer + "\n.\n") for budget in range(1, steps + 1)]
         waits = model.Search(*files).counts_agree()
         cases.append((listing_case(*files, budget=0), "paused 0 0\nsteps 0 -\n.\n" if waits else answer + "\n.\n"))
     cases += [*refusals(), *records(), *checks(random), *smallest()]
-    cases += listed(oracle, [*examples()])
+    cases += listed(oracle, examples())
     CRATE.joinpath("stdin").write_text("".join(case for case, _ in cases))
     CRATE.joinpath("stdout").write_text("".join(answer for _, answer in cases))
     print(f"{len(tasks)} listings, {len(cases)} cases")
