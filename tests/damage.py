@@ -18,7 +18,8 @@ from graphs import FILL, case, run
 from make_searches import checked, continued, started
 from packed import MAX_LIMIT, Settings, pack, pack_search
 from random_graphs import part_of, random_graph
-from search_model import Record, Refused
+from read_model import Refused, read
+from search_model import Record
 
 BATCH = 2000
 MAX_SETTINGS = 16  # the most that relist takes in a case
@@ -52,7 +53,7 @@ def perhaps(random, data, other, chance):
 def read_case(random, file):
     call = random.choice(["read", "byid", "vf2pp"])
     try:
-        graph = model.read(file)
+        graph = read(file)
     except Refused as refused:
         buffer = 0 if call == "read" else random.randint(0, 6)
         rest = "".join(f" {FILL}" for _ in range(buffer))

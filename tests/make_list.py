@@ -3,7 +3,7 @@
 
     tests/make_list.py ORACLE
 
-writes crates/replay/stdin and crates/replay/stdout. The node orders are the Rust oracle's; Read's answers come from the reader below.
+writes crates/replay/stdin and crates/replay/stdout. The node orders are the Rust oracle's; Read's answers are those of read_model.py.
 It stops where the model of the order differs from the Rust, and where the list would not tell a wrong reading of the order.
 """
 import random as randoms
@@ -14,39 +14,10 @@ from graphs import case, order_line, rust_orders, whole_buffer
 from order_model import WRONG, vf2pp
 from packed import Graph, as_bytes, fields, pack
 from random_graphs import random_graph
+from read_model import Refused, read
 from shapes import path, plain, ring
 
 REPLAY = Path(__file__).resolve().parent.parent / "crates" / "replay"
-
-
-# Read, from document 01's table.
-
-
-def read(file):
-    """Read's answer: ("graph", kind, N, E) or ("refused", number, 0)."""
-    if len(file) < 3:
-        return "refused", 1, 0
-    size = 8 * len(file)
-    whole = int.from_bytes(file, "big")
-
-    def at(offset, width):
-        return whole >> (size - offset - width) & (1 << width) - 1
-
-    kind, nodes, edges = at(0, 1), at(1, 8), at(9, 11)
-    if nodes > 128:
-        return "refused", 2, 0
-    if edges > 1024:
-        return "refused", 3, 0
-    used = 20 + 12 * nodes + 20 * edges
-    if len(file) != -(-used // 8):
-        return "refused", 4, 0
-    if at(used, size - used) != 0:
-        return "refused", 5, 0
-    first = 20 + 12 * nodes
-    ends = [at(first + 20 * j + end, 7) for j in range(edges) for end in (0, 7)]
-    if any(end >= nodes for end in ends):
-        return "refused", 6, 0
-    return "graph", kind, nodes, edges
 
 
 # The graphs whose orders are listed.
@@ -263,12 +234,19 @@ def read_files(random):
     return files + [random.randbytes(random.randint(3, 40)) for _ in range(20)]
 
 
+def read_line(file):
+    try:
+        graph = read(file)
+    except Refused as refused:
+        return f"refused {refused.number} {refused.file}"
+    return f"graph {int(graph.directed)} {len(graph.labels)} {len(graph.edges)}"
+
+
 def read_cases(random):
     for file in dict.fromkeys(read_files(random)):
-        answer = read(file)
-        line = " ".join(str(word) for word in answer)
+        line = read_line(file)
         yield case("read", 0, file), line + "\n"
-        if answer[0] == "refused" and len(file) < 40:
+        if line.startswith("refused") and len(file) < 40:
             buffer = random.choice([0, 3, 128])
             call = random.choice(["byid", "vf2pp"])
             yield case(call, buffer, file), whole_buffer(line, [], buffer)

@@ -14,7 +14,8 @@ import sys
 import search_model as model
 from graphs import FILL
 from packed import MAX_LIMIT, Graph, Settings, pack, pack_search, read_search
-from search_model import Record, Refused
+from read_model import Refused, examine
+from search_model import Record
 from searches import listing_case, rust_listings, search_case
 from shapes import grid, path, plain, ring
 
@@ -114,7 +115,7 @@ def record_bytes(record):
 
 def started(file0, file1, settings):
     try:
-        model.examine(file0, file1, settings)
+        examine(file0, file1, settings)
         answer = "started " + record_text(Record()) + "\n"
     except Refused as refused:
         answer = line_of(refused.number, refused.file)
