@@ -12,10 +12,10 @@ import pathlib
 import random as randoms
 from collections import Counter
 
-import order_model
 import search_model as model
 from graphs import FILL, case, run
 from make_searches import checked, continued, started
+from order_model import node_order
 from packed import MAX_LIMIT, Settings, pack, pack_search
 from random_graphs import part_of, random_graph
 from read_model import Refused, read
@@ -64,7 +64,7 @@ def read_case(random, file):
     buffer = random.choice([n, n, n + 2, max(n - 1, 0)])
     if buffer < n:
         return case(call, buffer, file), "refused 10 0" + "".join(f" {FILL}" for _ in range(buffer)) + "\n"
-    ids = order_model.vf2pp(graph) if call == "vf2pp" else list(range(n))
+    ids = node_order(graph, call == "vf2pp")
     return case(call, buffer, file), " ".join(["ordered", str(n)] + [str(v) for v in ids] + [str(FILL)] * (buffer - n)) + "\n"
 
 

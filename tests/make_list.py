@@ -66,7 +66,7 @@ def told_apart():
         for n, edges, readings in rows:
             made = plain(directed, n, edges)
             for reading in readings:
-                if vf2pp(made, **WRONG[reading]) == vf2pp(made):
+                if vf2pp(made, WRONG[reading]) == vf2pp(made):
                     raise SystemExit(f"{made} does not tell: {reading}")
             told |= set(readings)
             graphs.append(made)
