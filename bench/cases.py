@@ -42,11 +42,11 @@ def absent():
 
 
 def circuit(parts):
-    """Parts (kind, net, net) first, then nets by their names; labels as in examples/README.md."""
+    """Parts (kind, net, net) first, then nets by number, and not by first use as in examples/pack.py; labels as there."""
     nets = sorted({net for _, *pins in parts for net in pins})
     labels = [kind for kind, *_ in parts] + [4 if net == 0 else 0 for net in nets]
-    edges = [(part, len(parts) + nets.index(net), pin) for part, (_, *pins) in enumerate(parts) for pin, net in enumerate(pins, 1)]
-    return Graph(False, labels, edges)
+    ends = [(part, net, pin) for part, (_, *pins) in enumerate(parts) for pin, net in enumerate(pins, 1)]
+    return Graph(False, labels, [(part, len(parts) + nets.index(net), pin) for part, net, pin in ends])
 
 
 def ladder(sections):

@@ -11,9 +11,11 @@ import sys
 HERE = pathlib.Path(__file__).resolve().parent
 sys.path.insert(0, str(HERE.parent / "tests"))
 
+from case_lines import split_steps  # noqa: E402
+from options import oracle_alone  # noqa: E402
+from oracle import rust_listings  # noqa: E402
 from pack import BOTH, circuit  # noqa: E402
-from packed import Settings, pack_search, write_search  # noqa: E402
-from searches import rust_listings  # noqa: E402
+from packed import Settings, pack_search, write_files  # noqa: E402
 from shapes import path, plain  # noqa: E402
 
 
@@ -73,13 +75,13 @@ EXAMPLES = {
 
 
 def main():
-    oracle, = sys.argv[1:]
+    oracle = oracle_alone(__doc__)
     files = [pack_search(*example) for example in EXAMPLES.values()]
     for name, parts, answer in zip(EXAMPLES, files, rust_listings(oracle, files)):
         folder = HERE / name
         folder.mkdir(exist_ok=True)
-        write_search(folder, parts)
-        listing, _, _ = answer.rpartition("steps ")
+        write_files(folder, parts)
+        listing, _ = split_steps(answer)
         folder.joinpath("listing").write_text(listing)
 
 

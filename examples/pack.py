@@ -14,7 +14,7 @@ import sys
 HERE = pathlib.Path(__file__).resolve().parent
 sys.path.insert(0, str(HERE.parent / "tests"))
 
-from packed import MAX_EDGE_LABEL, MAX_EDGES, MAX_NODE_LABEL, MAX_NODES, Graph, Settings, pack_search, write_search  # noqa: E402
+from packed import MAX_EDGE_LABEL, MAX_EDGES, MAX_NODE_LABEL, MAX_NODES, Graph, Settings, pack_search, write_files  # noqa: E402
 
 KINDS = {"R": 1, "C": 2, "L": 3}
 NET = 0
@@ -58,7 +58,7 @@ def main():
     (board, board_names), (block, block_names) = read(sys.argv[1]), read(sys.argv[2])
     folder = pathlib.Path(sys.argv[3])
     folder.mkdir(parents=True, exist_ok=True)
-    write_search(folder, pack_search(board, block, BOTH))
+    write_files(folder, pack_search(board, block, BOTH))
     for side, names in (("board", board_names), ("block", block_names)):
         print(side, " ".join(f"{node}={name}" for node, name in enumerate(names)))
 

@@ -5,11 +5,13 @@
 
 prints how many cases there were and how many differed, and the smallest graph that it can make of those that differ.
 """
-import argparse
 import random as randoms
 
-from graphs import MAX_BUFFER, case, order_line, run, rust_orders
+from case_lines import MAX_BUFFER, order_line, replay_case
+from options import add_programs, add_random_cases, words_of
+from oracle import rust_orders
 from packed import Graph, pack
+from programs import batches, differences, line_answers
 from random_graphs import random_graph
 from shapes import plain
 
@@ -23,18 +25,16 @@ def buffer_for(file, n, call):
     return chance.choice(lengths)
 
 
-def differences(oracle, replay, graphs):
-    """(graph, case, the Rust's line, the program's line) for each case of these graphs that differs."""
+def differing(oracle, replay, graphs):
+    """The differences of these graphs; a case is a graph and its line."""
     files = [pack(graph) for graph in graphs]
-    asked, want = [], []
+    cases, expected = [], []
     for graph, file, orders in zip(graphs, files, rust_orders(oracle, files)):
         for call, ids in zip(("byid", "vf2pp"), orders):
             buffer = buffer_for(file, len(ids), call)
-            asked.append((graph, case(call, buffer, file)))
-            want.append(order_line(ids, buffer))
-    got = run([replay], "".join(text for _, text in asked)).splitlines(keepends=True)
-    got += [""] * (len(want) - len(got))
-    return [(*question, rust, ours) for question, rust, ours in zip(asked, want, got) if rust != ours]
+            cases.append((graph, replay_case(call, buffer, file)))
+            expected.append(order_line(ids, buffer))
+    return differences(cases, expected, line_answers(replay, [line for _, line in cases]))
 
 
 def smaller(graph):
@@ -50,32 +50,31 @@ def smaller(graph):
         yield unlabelled
 
 
-def smallest(oracle, replay, difference):
-    """The difference, with all left out that can be while some case of the graph still differs."""
-    while True:
-        found = differences(oracle, replay, list(smaller(difference[0])))
-        if not found:
-            return difference
-        difference = min(found, key=lambda each: len(each[1]))
+def with_shortest_line(found):
+    return min(found, key=lambda difference: len(difference.case[1]))
+
+
+def smallest(oracle, replay, found):
+    """A difference with all left out that can be while some case of the graph still differs."""
+    while found:
+        difference = with_shortest_line(found)
+        found = differing(oracle, replay, list(smaller(difference.case[0])))
+    return difference
 
 
 def main():
-    words = argparse.ArgumentParser()
-    words.add_argument("--oracle", required=True)
-    words.add_argument("--replay", required=True)
-    words.add_argument("--seed", type=int, required=True)
-    words.add_argument("--count", type=int, required=True)
+    words = words_of(__doc__)
+    add_programs(words, "oracle", "replay")
+    add_random_cases(words, 20000)
     given = words.parse_args()
     random = randoms.Random(given.seed)
-    differing = []
-    for start in range(0, given.count, BATCH):
-        graphs = [random_graph(random) for _ in range(min(BATCH, given.count - start))]
-        differing += differences(given.oracle, given.replay, graphs)
-    print(f"seed {given.seed}: {given.count} graphs, {2 * given.count} cases, {len(differing)} differ")
-    if differing:
-        first = min(differing, key=lambda each: len(each[1]))
-        graph, text, rust, ours = smallest(given.oracle, given.replay, first)
-        print(f"{graph}\ncase {text}Rust {rust}ours {ours}", end="")
+    found = []
+    for size in batches(given.count, BATCH):
+        found += differing(given.oracle, given.replay, [random_graph(random) for _ in range(size)])
+    print(f"seed {given.seed}: {given.count} graphs, {2 * given.count} cases, {len(found)} differ")
+    if found:
+        (graph, line), rust, ours = smallest(given.oracle, given.replay, found)
+        print(f"{graph}\ncase {line}Rust {rust}ours {ours}", end="")
         raise SystemExit(1)
 
 

@@ -6,16 +6,14 @@
 prints how many cases there were and how many differed, and the smallest of those that differ. Each case is run through
 Start and Continue by the program `relist`, with one budget for all calls, and, where it is named, by the program `list`.
 """
-import argparse
-import os
 import random as randoms
-import subprocess
-import tempfile
 
-from graphs import run
-from packed import MAX_LIMIT, Graph, Settings, pack_search, write_search
+from case_lines import MAX_BUDGET, listing_case, maps_and_steps, split_steps
+from options import add_programs, add_random_cases, words_of
+from oracle import rust_listings
+from packed import MAX_LIMIT, Settings, pack_search
+from programs import batches, differences, listing_answers, printed_listing
 from random_graphs import part_of, random_graph
-from searches import listing_case, rust_listings
 
 BATCH = 500
 
@@ -29,8 +27,7 @@ def random_pair(random):
         size = 3
     if random.random() < 0.7:
         return board, part_of(random, board, size)
-    block = random_graph(random, min(size, 5), 2 * size)
-    return board, Graph(board.directed, block.labels, block.edges)
+    return board, random_graph(random, min(size, 5), 2 * size)._replace(directed=board.directed)
 
 
 def random_settings(random, small):
@@ -45,53 +42,42 @@ def random_settings(random, small):
 def random_case(random):
     board, block = random_pair(random)
     settings = random_settings(random, small=len(board.labels) <= 8)
-    budget = random.choice([65535, 65535, random.randint(1, 40)])
+    budget = random.choice([MAX_BUDGET, MAX_BUDGET, random.randint(1, 40)])
     return *pack_search(board, block, settings), budget
 
 
-def listed(program, folder, case):
-    """What the listing program prints for the case."""
-    write_search(folder, case)
-    return subprocess.run([program], cwd=folder, stdout=subprocess.PIPE, text=True).stdout
-
-
-def differences(given, folder, cases):
-    """(case, the Rust's answer, ours) for each that differs; and the maps and steps of all."""
-    want = rust_listings(given.oracle, [case[:3] for case in cases])
-    got = run([given.relist], "".join(listing_case(*case) for case in cases)).split("\n.\n")
-    got = got[:-1] + [""] * (len(want) - len(got) + 1)
-    found = [(case, rust, ours) for case, rust, ours in zip(cases, want, got) if rust != ours]
+def differing(given, cases, rust):
+    """The differences of relist and, where it is named, of the listing program."""
+    found = differences(cases, rust, listing_answers(given.relist, [listing_case(*case) for case in cases]))
     if given.list:
-        for case, rust in zip(cases, want):
-            ours = listed(given.list, folder, case)
-            if ours != rust[: rust.rindex("\n") + 1]:
-                found.append((case, rust, ours))
-    sizes = [[int(line.split()[1]) for line in rust.splitlines()[-2:]] for rust in want]
-    return found, sum(maps for maps, _ in sizes), sum(steps for _, steps in sizes)
+        printed = [printed_listing(given.list, case[:3]) for case in cases]
+        found += differences(cases, [split_steps(listing)[0] for listing in rust], printed)
+    return found
+
+
+def show(difference):
+    (board, block, settings, budget), rust, ours = difference
+    print(f"g0 {board.hex()}\ng1 {block.hex()}\nsettings {settings.hex()} budget {budget}")
+    print(f"the Rust:\n{rust}\nours:\n{ours}")
 
 
 def main():
-    words = argparse.ArgumentParser()
-    words.add_argument("--oracle", required=True)
-    words.add_argument("--relist", required=True)
-    words.add_argument("--list")
-    words.add_argument("--seed", type=int, default=1)
-    words.add_argument("--count", type=int, default=20000)
+    words = words_of(__doc__)
+    add_programs(words, "oracle", "relist")
+    add_programs(words, "list", required=False)
+    add_random_cases(words, 20000)
     given = words.parse_args()
-    given.list = given.list and os.path.abspath(given.list)
     random = randoms.Random(given.seed)
-    found, left, maps, steps = [], given.count, 0, 0
-    with tempfile.TemporaryDirectory() as folder:
-        while left:
-            cases = [random_case(random) for _ in range(min(BATCH, left))]
-            more, some_maps, some_steps = differences(given, folder, cases)
-            found, maps, steps = found + more, maps + some_maps, steps + some_steps
-            left -= len(cases)
+    found, sizes = [], []
+    for size in batches(given.count, BATCH):
+        cases = [random_case(random) for _ in range(size)]
+        rust = rust_listings(given.oracle, [case[:3] for case in cases])
+        found += differing(given, cases, rust)
+        sizes += [maps_and_steps(listing) for listing in rust]
+    maps, steps = sum(maps for maps, _ in sizes), sum(steps for _, steps in sizes)
     print(f"seed {given.seed}: {given.count} pairs of graphs, {maps} maps, {steps} steps, {len(found)} differ")
     if found:
-        (board, block, settings, budget), rust, ours = min(found, key=lambda each: len(each[0][0]) + len(each[0][1]))
-        print(f"g0 {board.hex()}\ng1 {block.hex()}\nsettings {settings.hex()} budget {budget}")
-        print(f"the Rust:\n{rust}\nours:\n{ours}")
+        show(min(found, key=lambda difference: len(difference.case[0]) + len(difference.case[1])))
         raise SystemExit(1)
 
 

@@ -6,40 +6,28 @@
 The cases are two of the bench: the grid of 8 x 16 with a path of 8, and with a ring of 9 that is not there. It prints the steps
 of each, and whether the bytes of the listing are those that the listing program writes in its one run.
 """
-import argparse
-import os
 import pathlib
-import subprocess
 import sys
-import tempfile
 
 sys.path.insert(0, str(pathlib.Path(__file__).resolve().parent.parent / "bench"))
 
+from case_lines import MAX_BUDGET, listing_case, split_steps  # noqa: E402
 from cases import absent, grid_path  # noqa: E402
-from graphs import run  # noqa: E402
-from packed import pack_search, write_search  # noqa: E402
-from searches import listing_case  # noqa: E402
-
-BUDGET = 65535
-
-
-def one_run(program, files):
-    with tempfile.TemporaryDirectory() as folder:
-        write_search(folder, files)
-        return subprocess.run([program], cwd=folder, stdout=subprocess.PIPE, text=True, check=True).stdout
+from options import add_programs, words_of  # noqa: E402
+from packed import pack_search  # noqa: E402
+from programs import listing_answers, printed_listing  # noqa: E402
 
 
 def main():
-    words = argparse.ArgumentParser()
-    words.add_argument("--relist", required=True)
-    words.add_argument("--list", required=True)
+    words = words_of(__doc__)
+    add_programs(words, "relist", "list")
     given = words.parse_args()
     for name, case in (("path of 8", grid_path), ("ring of 9", absent)):
         files = pack_search(*case())
-        listing, _, counted = run([given.relist], listing_case(*files, budget=BUDGET)).rpartition("steps ")
-        steps = int(counted.split()[0])
-        same = listing == one_run(os.path.abspath(given.list), files)
-        print(f"grid 8 x 16, {name}: {steps} steps, at most {BUDGET} in a call: " + ("the same bytes" if same else "DIFFERS"))
+        (answer,) = listing_answers(given.relist, [listing_case(*files, budget=MAX_BUDGET)])
+        listing, steps = split_steps(answer)
+        same = listing == printed_listing(given.list, files)
+        print(f"grid 8 x 16, {name}: {steps} steps, at most {MAX_BUDGET} in a call: " + ("the same bytes" if same else "DIFFERS"))
         if not same:
             raise SystemExit(1)
 

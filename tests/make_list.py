@@ -3,25 +3,23 @@
 
     tests/make_list.py ORACLE
 
-writes crates/replay/stdin and crates/replay/stdout. The node orders are the Rust oracle's; Read's answers are those of read_model.py.
-It stops where the model of the order differs from the Rust, and where the list would not tell a wrong reading of the order.
+writes crates/replay/stdin and crates/replay/stdout. The node orders are the Rust oracle's; Read's answers and all refusals are
+those of read_model.py. It stops where the model of the order differs from the Rust, and where the list would not tell a wrong
+reading of the order.
 """
 import random as randoms
-import sys
-from pathlib import Path
 
-from graphs import case, order_line, rust_orders, whole_buffer
+import expected
+from case_lines import MAX_BUFFER, order_line, replay_case, write_list
+from options import oracle_alone
+from oracle import rust_orders
 from order_model import WRONG, vf2pp
 from packed import Graph, as_bytes, fields, pack
 from random_graphs import random_graph
-from read_model import Refused, read
 from shapes import path, plain, ring
-
-REPLAY = Path(__file__).resolve().parent.parent / "crates" / "replay"
 
 
 # The graphs whose orders are listed.
-
 
 DIRECTED = [
     # n, edges, the wrong readings that it tells
@@ -129,9 +127,9 @@ def order_cases(random, oracle):
             raise SystemExit(f"the model differs from the Rust on {file.hex()}")
         n = len(by_id)
         for call, ids in (("byid", by_id), ("vf2pp", plus_plus)):
-            buffers = [n] + [random.randint(n + 1, min(n + 9, 256))] * (i % 3 == 0) + [n - 1] * (i % 4 == 1 and n > 0)
+            buffers = [n] + [random.randint(n + 1, min(n + 9, MAX_BUFFER))] * (i % 3 == 0) + [n - 1] * (i % 4 == 1 and n > 0)
             for buffer in buffers:
-                yield case(call, buffer, file), order_line(ids, buffer)
+                yield replay_case(call, buffer, file), order_line(ids, buffer)
 
 
 # The files that Read turns away, and their neighbours that it takes.
@@ -147,9 +145,11 @@ def with_edges(kind, n, edges):
 
 
 def with_bit(file, bit):
-    flipped = bytearray(file)
-    flipped[bit // 8] ^= 0x80 >> bit % 8
-    return bytes(flipped)
+    """The file with this bit changed, counted from its end where it is negative."""
+    bit %= 8 * len(file)
+    changed = bytearray(file)
+    changed[bit // 8] ^= 0x80 >> bit % 8
+    return bytes(changed)
 
 
 def lengths(kind):
@@ -184,7 +184,7 @@ def padding(kind):
     files = []
     for n, edges in ((0, 0), (1, 1), (2, 0), (4, 6), (127, 1), (128, 2)):
         file = zeros(kind, n, edges)
-        files += [with_bit(file, 8 * len(file) - 1 - k) for k in range(5)]
+        files += [with_bit(file, -1 - k) for k in range(5)]
     last = zeros(kind, 3, 1)
     return files + [last[:-1] + bytes([last[-1] | pattern]) for pattern in range(16)]
 
@@ -204,23 +204,24 @@ def unknown_nodes(kind):
 
 
 def broken_twice(kind):
-    """Files that break two lines of the table, or more; the earlier number is given. No file breaks 2 and 6: an edge names at most node 127."""
+    """Files that break two lines of the table, or more; the earlier number is given. None breaks 2 and 6: an edge names at most
+    node 127."""
     bad = with_edges(kind, 4, [(0, 4, 0), (4, 0, 0)])
     return [
         as_bytes(fields(kind, 129, 1025))[:2],
         as_bytes(fields(kind, 129, 1025)),
         zeros(kind, 129, 1025),
         zeros(kind, 129, 0)[:-1],
-        with_bit(zeros(kind, 130, 0), 8 * len(zeros(kind, 130, 0)) - 1),
+        with_bit(zeros(kind, 130, 0), -1),
         as_bytes(fields(kind, 3, 1025)),
         zeros(kind, 0, 1025),
-        with_bit(zeros(kind, 1, 1025), 8 * len(zeros(kind, 1, 1025)) - 1),
+        with_bit(zeros(kind, 1, 1025), -1),
         bad[:-1],
         bad + b"\x00",
         bad + b"\x01",
-        with_bit(bad, 8 * len(bad) - 1),
-        with_bit(bad, 8 * len(bad) - 4),
-        with_bit(zeros(kind, 0, 2), 8 * len(zeros(kind, 0, 2)) - 2),
+        with_bit(bad, -1),
+        with_bit(bad, -4),
+        with_bit(zeros(kind, 0, 2), -2),
     ]
 
 
@@ -234,29 +235,19 @@ def read_files(random):
     return files + [random.randbytes(random.randint(3, 40)) for _ in range(20)]
 
 
-def read_line(file):
-    try:
-        graph = read(file)
-    except Refused as refused:
-        return f"refused {refused.number} {refused.file}"
-    return f"graph {int(graph.directed)} {len(graph.labels)} {len(graph.edges)}"
-
-
 def read_cases(random):
     for file in dict.fromkeys(read_files(random)):
-        line = read_line(file)
-        yield case("read", 0, file), line + "\n"
-        if line.startswith("refused") and len(file) < 40:
+        case, answer = expected.read(file)
+        yield case, answer
+        if answer.startswith("refused") and len(file) < 40:
             buffer = random.choice([0, 3, 128])
-            call = random.choice(["byid", "vf2pp"])
-            yield case(call, buffer, file), whole_buffer(line, [], buffer)
+            yield expected.ordered(random.choice(["byid", "vf2pp"]), file, buffer)
 
 
 def main():
     random = randoms.Random(1)
-    cases = list(order_cases(random, sys.argv[1])) + list(read_cases(random))
-    (REPLAY / "stdin").write_text("".join(question for question, _ in cases))
-    (REPLAY / "stdout").write_text("".join(answer for _, answer in cases))
+    cases = [*order_cases(random, oracle_alone(__doc__)), *read_cases(random)]
+    write_list("replay", cases)
     print(f"{len(cases)} cases")
 
 

@@ -7,21 +7,15 @@ Listings and their steps are the Rust's; what the Rust has no counterpart for (r
 model's of search_model.py, which is first compared with the Rust on every listing of the list.
 """
 import itertools
-import pathlib
 import random as randoms
-import sys
 
-import search_model as model
-from graphs import FILL
-from packed import MAX_LIMIT, Graph, Settings, pack, pack_search, read_search
-from read_model import Refused, examine
-from search_model import Record
-from searches import listing_case, rust_listings, search_case
+from case_lines import MAX_BUDGET, PROJECT, line, listing_answer, listing_case, map_line, split_steps, write_list
+from expected import checked, continued, started
+from options import oracle_alone
+from oracle import rust_listings
+from packed import MAX_LIMIT, Graph, Settings, pack, pack_search, pack_settings, read_files
+from search_model import MOST_ACCEPTED, OUTER, UNWIND, Record, Search, inner
 from shapes import grid, path, plain, ring
-
-ROOT = pathlib.Path(__file__).resolve().parent.parent
-CRATE = ROOT / "crates" / "relist"
-
 
 PATH3 = plain(False, 3, path(3))
 EDGE = plain(False, 2, path(2))
@@ -30,12 +24,15 @@ CYCLE3 = plain(True, 3, ring(3))
 TWO_EDGES = plain(True, 2, [(0, 1), (0, 1)])
 ARC = plain(True, 2, path(2))
 LOOP = plain(True, 1, [(0, 0)])
-FIVE_SEVEN = Graph(True, [0, 0], [(0, 1, 5), (0, 1, 7)])
+FIVE_SEVEN = plain(True, 2, [(0, 1, 5), (0, 1, 7)])
+
+# five bytes: both orderings that there are not, the spare bit, a limit above its largest, a limit and not limited
+REFUSED_SETTINGS = [bytes.fromhex(each) for each in ("8000000000", "c000000000", "4100000000", "42ffffffff", "4000000001")]
 
 
 def small_graphs():
     """Document 01's "Small graphs on each side", the starred ones too."""
-    labelled = [Graph(True, [0, 0], [(0, 1, label)]) for label in (7, 6)]
+    labelled = [plain(True, 2, [(0, 1, label)]) for label in (7, 6)]
     greater = Settings()
     yield from ((PATH3, EDGE, greater._replace(limit=limit)) for limit in (None, 7, 6, 1))
     yield PATH3, EDGE, greater._replace(vf2pp=True)
@@ -71,6 +68,13 @@ def switches():
         yield Settings(larger, vf2pp, induced, node_labels, edge_labels)
 
 
+def some_pieces(random, chance):
+    """All pieces, with some of the settings."""
+    for directed in (False, True):
+        for board, block in pieces(directed):
+            yield from ((board, block, each) for each in switches() if random.random() < chance)
+
+
 def large(random):
     """N 128 with E 1,024, and 128 nodes in a grid."""
     for directed in (False, True):
@@ -88,57 +92,10 @@ def large(random):
 
 def listings(random):
     yield from small_graphs()
-    for directed in (False, True):
-        for board, block in pieces(directed):
-            yield from ((board, block, each) for each in switches() if random.random() < 0.75)
+    yield from some_pieces(random, 0.75)
     for board, block in [(PATH3, EDGE), (TRIANGLE, PATH3), (CYCLE3, CYCLE3)]:
         yield from ((board, block, Settings(limit=limit)) for limit in [*range(0, 24), MAX_LIMIT])
     yield from large(random)
-
-
-def line_of(number, file):
-    return f"refused {number} {file}\n"
-
-
-def record_text(record):
-    top = " ".join(str(word) for word in record.top)
-    return f"record {record.depth} {top} {record.accepted} " + " ".join(str(x) for x in record.path)
-
-
-def record_bytes(record):
-    top = {"outer": 0, "inner": 1, "unwind": 2}[record.top[0]]
-    position = record.top[1] if top == 1 else 0
-    return (
-        record.depth.to_bytes(2, "big") + bytes([top]) + position.to_bytes(2, "big") + record.accepted.to_bytes(4, "big") + record.path
-    )
-
-
-def started(file0, file1, settings):
-    try:
-        examine(file0, file1, settings)
-        answer = "started " + record_text(Record()) + "\n"
-    except Refused as refused:
-        answer = line_of(refused.number, refused.file)
-    return search_case("start", file0, file1, settings), answer
-
-
-def continued(file0, file1, settings, record, budget, size):
-    buffer = bytes([FILL] * size)
-    try:
-        answer, steps, after, filled = model.continue_search(file0, file1, settings, record, budget, buffer)
-        head = f"{answer} {steps}"
-    except Refused as refused:
-        head, after, filled = f"refused {refused.number} {refused.file}", record, buffer
-    text = " ".join([head, record_text(after), "buffer"] + [str(x) for x in filled]) + "\n"
-    return search_case("conti", file0, file1, settings, record_bytes(record), budget, size), text
-
-
-def checked(file0, file1, settings, images):
-    try:
-        answer = ("yes" if model.check(file0, file1, settings, images) else "no") + "\n"
-    except Refused as refused:
-        answer = line_of(refused.number, refused.file)
-    return search_case("kheck", file0, file1, settings, bytes(images)), answer
 
 
 def pausing():
@@ -149,26 +106,14 @@ def pausing():
     yield TRIANGLE, PATH3, Settings(induced=True)
     yield CYCLE3, CYCLE3, Settings(False, False, True)
     yield TWO_EDGES, ARC, Settings()
-    yield FIVE_SEVEN, Graph(True, [0, 0], [(0, 1, 7)]), Settings(edge_labels=True)
+    yield FIVE_SEVEN, plain(True, 2, [(0, 1, 7)]), Settings(edge_labels=True)
     yield LOOP, plain(True, 1, []), Settings()
     yield plain(True, 3, []), plain(True, 2, []), Settings()
     yield PATH3, plain(False, 0, []), Settings()
     yield EDGE, PATH3, Settings()
 
 
-def passed(file0, file1, settings):
-    """Every record that the search passes on its way from Start."""
-    search = model.Search(file0, file1, settings)
-    pairs, top, accepted = [], ("outer",), 0
-    while True:
-        path = bytes(a for a, _ in pairs)
-        yield Record(len(path), path.ljust(128, b"\0"), top, accepted)
-        if not search.counts_agree() or (top[0] == "unwind" and not pairs) or search.over(accepted):
-            return
-        top, accepted, _ = search.step(pairs, top, accepted)
-
-
-def damaged(record, nodes0, nodes1):
+def damaged_records(record, nodes0, nodes1):
     """Records that no search has made: each has one thing wrong, or is another record by chance."""
     yield record._replace(depth=min(nodes0, nodes1) + 1)
     yield record._replace(depth=65535)
@@ -179,24 +124,30 @@ def damaged(record, nodes0, nodes1):
             yield record._replace(path=record.path[:i] + bytes([x]) + record.path[i + 1 :])
     if record.depth:
         yield record._replace(depth=record.depth - 1)
-    yield from (record._replace(top=("inner", x)) for x in (0, 1, 2, 3, 65535))
-    yield record._replace(top=("outer",))
-    yield record._replace(top=("unwind",))
-    yield record._replace(accepted=4294967295)
+    yield from (record._replace(top=top) for top in (*map(inner, (0, 1, 2, 3, 65535)), OUTER, UNWIND))
+    yield record._replace(accepted=MOST_ACCEPTED)
+
+
+def passed_records(board, block, settings):
+    """Every record that the search passes, continued, and some of them damaged."""
+    files = pack_search(board, block, settings)
+    size = 2 * len(block.labels)
+    for i, record in enumerate(Search(*files).records()):
+        yield continued(*files, record, (0, 1, 2, 7, MAX_BUDGET)[i % 5], size + (0, 0, 3)[i % 3])
+        if i % 4 == 1:
+            damaged = damaged_records(record, len(board.labels), len(block.labels))
+            yield from (continued(*files, each, 3, size) for each in damaged)
 
 
 def records():
-    for board, block, settings in [(PATH3, EDGE, Settings()), (CYCLE3, CYCLE3, Settings(False, True, True)), (TRIANGLE, PATH3, Settings(limit=3))]:
-        files = pack_search(board, block, settings)
-        size = 2 * len(block.labels)
-        for i, record in enumerate(passed(*files)):
-            yield continued(*files, record, (0, 1, 2, 7, 65535)[i % 5], size + (0, 0, 3)[i % 3])
-            if i % 4 == 1:
-                yield from (continued(*files, each, 3, size) for each in damaged(record, len(board.labels), len(block.labels)))
+    yield from passed_records(PATH3, EDGE, Settings())
+    yield from passed_records(CYCLE3, CYCLE3, Settings(False, True, True))
+    yield from passed_records(TRIANGLE, PATH3, Settings(limit=3))
     files = pack_search(PATH3, EDGE, Settings())
     yield from (continued(*files, Record(), 5, size) for size in (0, 1, 3, 4, 5, 9))
     unlike = pack_search(EDGE, PATH3, Settings())
-    yield from (continued(*unlike, each, 5, 6) for each in (Record(), Record(top=("unwind",)), Record(top=("inner", 0)), Record(1, bytes([1]) + bytes(127), ("outer",), 1)))
+    one_pair = Record(1, bytes([1]) + bytes(127), OUTER, 1)
+    yield from (continued(*unlike, each, 5, 6) for each in (Record(), Record(top=UNWIND), Record(top=inner(0)), one_pair))
 
 
 def refusals():
@@ -210,17 +161,17 @@ def refusals():
         good + b"\0",
         good[:-1],
         good[:-1] + bytes([good[-1] | 1]),
-        pack(Graph(False, [0] * 2, [(0, 2, 0)])),
+        pack(plain(False, 2, [(0, 2)])),
         good,
         pack(ARC),
     ]
-    chosen = [settings, b"", settings + b"\0", b"\x80" + bytes(4), b"\xc0" + bytes(4), b"\x41" + bytes(4), b"\x42" + b"\xff" * 4, b"\x40\0\0\0\1", b"\x42\xff\xff\xff\xfe"]
     for file0, file1 in itertools.product(files, repeat=2):
-        for each in (chosen[0], chosen[3]):
+        for each in (settings, REFUSED_SETTINGS[0]):
             yield started(file0, file1, each)
             yield continued(file0, file1, each, Record(depth=3), 5, 0)
             yield checked(file0, file1, each, [0, 1])
-    for each in chosen:
+    largest_limit = pack_settings(Settings(limit=MAX_LIMIT))
+    for each in [settings, b"", settings + b"\0", *REFUSED_SETTINGS, largest_limit]:
         yield started(good, block, each)
         yield continued(good, block, each, Record(), 9, 4)
         yield checked(good, block, each, [0, 1])
@@ -233,73 +184,85 @@ def smallest():
         yield started(bytes.fromhex(file), empty, settings)
         yield started(empty, bytes.fromhex(file), settings)
     yield started(empty, bytes.fromhex("800000"), settings)
-    for refused in ("", "8000000000", "c000000000", "4100000000", "42ffffffff", "4000000001"):
-        yield started(empty, empty, bytes.fromhex(refused))
+    yield from (started(empty, empty, refused) for refused in [b"", *REFUSED_SETTINGS])
     yield continued(empty, empty, settings, Record(depth=1), 0, 0)
     yield continued(one, one, settings, Record(), 0, 0)
     yield checked(empty, empty, settings, [0])
 
 
-def examples():
-    """The files of each folder of examples/."""
-    return [read_search(file.parent) for file in sorted(ROOT.glob("examples/*/g0.bin"))]
+def any_maps(random, n0, n1):
+    """All maps of small graphs, a byte that names no node among them; of larger ones a few."""
+    if (n0 + 1) ** n1 <= 30:
+        return itertools.product(range(n0 + 1), repeat=n1)
+    return (random.choices(range(n0), k=n1) for _ in range(3))
+
+
+def first_map(files, n1):
+    """The images that the search finds first, in the block's order of ids, or None."""
+    search = Search(*files)
+    answer, _ = search.run(100000)
+    if answer != "found":
+        return None
+    found = search.found_map()
+    images = dict(zip(found[1::2], found[0::2]))
+    return [images[node] for node in range(n1)]
 
 
 def checks(random):
-    for board, block, settings in [*small_graphs(), *((b, k, s) for d in (False, True) for b, k in pieces(d) for s in switches() if random.random() < 0.2)]:
+    for board, block, settings in [*small_graphs(), *some_pieces(random, 0.2)]:
         files = pack_search(board, block, settings)
         n0, n1 = len(board.labels), len(block.labels)
-        images = itertools.product(range(n0 + 1), repeat=n1) if (n0 + 1) ** n1 <= 30 else (random.choices(range(n0), k=n1) for _ in range(3))
-        yield from (checked(*files, each) for each in images)
-        search = model.Search(*files)
-        pairs, top, accepted = [], ("outer",), 0
-        answer, _, _, _ = search.run(pairs, top, accepted, 100000)
-        if answer == "found":
-            found = search.map_bytes(pairs)
-            images = dict(zip(found[1::2], found[0::2]))
-            yield checked(*files, [images[a] for a in range(n1)])
+        yield from (checked(*files, images) for images in any_maps(random, n0, n1))
+        found = first_map(files, n1)
+        if found is not None:
+            yield checked(*files, found)
         yield checked(*files, [0] * (n1 + 1))
         yield checked(*files, [255] * n1)
 
 
 def model_listing(files):
-    search = model.Search(*files)
-    pairs, top, accepted, total, lines, first = [], ("outer",), 0, 0, [], "-"
+    search, maps, total, first = Search(*files), [], 0, "-"
     while True:
-        answer, steps, top, accepted = search.run(pairs, top, accepted, 10**9)
+        answer, steps = search.run(10**9)
         total += steps
         if answer != "found":
-            return "\n".join([*lines, f"{answer} {len(lines)} {accepted}", f"steps {total} {first}"])
-        found = search.map_bytes(pairs)
-        first = first if lines else total
-        lines.append(" ".join(["map"] + [f"{a}:{b}" for a, b in zip(found[0::2], found[1::2])]))
+            return "".join(maps) + line(answer, len(maps), search.accepted) + f"steps {total} {first}"
+        first = first if maps else total
+        maps.append(map_line(search.found_map()))
 
 
-def listed(oracle, tasks):
+def listed(oracle, searches):
     """The cases of whole listings, with the Rust's answers."""
-    for files, answer in zip(tasks, rust_listings(oracle, tasks)):
-        if model_listing(files) != answer:
-            raise SystemExit(f"the model differs from the Rust: {[part.hex() for part in files]}")
-        yield listing_case(*files), answer + "\n.\n"
+    for files, listing in zip(searches, rust_listings(oracle, searches)):
+        if model_listing(files) != listing:
+            raise SystemExit(f"the model differs from the Rust: {[file.hex() for file in files]}")
+        yield listing_case(*files), listing_answer(listing)
+
+
+def paused(oracle):
+    """Listings with every budget up to that which makes all steps in one call; with budget 0 they stop before the first step."""
+    searches = [pack_search(*each) for each in pausing()]
+    for files, listing in zip(searches, rust_listings(oracle, searches)):
+        _, steps = split_steps(listing)
+        for budget in range(1, steps + 1):
+            yield listing_case(*files, budget=budget), listing_answer(listing)
+        waits = Search(*files).counts_agree()
+        yield listing_case(*files, budget=0), listing_answer("paused 0 0\nsteps 0 -" if waits else listing)
+
+
+def examples():
+    """The files of each folder of examples/."""
+    return [read_files(file.parent) for file in sorted(PROJECT.glob("examples/*/g0.bin"))]
 
 
 def main():
-    oracle, = sys.argv[1:]
+    oracle = oracle_alone(__doc__)
     random = randoms.Random(20261115)
-    tasks = [pack_search(*each) for each in listings(random)]
-    cases = [*listed(oracle, tasks)]
-    for board, block, settings in pausing():
-        files = pack_search(board, block, settings)
-        answer, = rust_listings(oracle, [files])
-        steps = int(answer.split()[-2])
-        cases += [(listing_case(*files, budget=budget), answer + "\n.\n") for budget in range(1, steps + 1)]
-        waits = model.Search(*files).counts_agree()
-        cases.append((listing_case(*files, budget=0), "paused 0 0\nsteps 0 -\n.\n" if waits else answer + "\n.\n"))
-    cases += [*refusals(), *records(), *checks(random), *smallest()]
+    searches = [pack_search(*each) for each in listings(random)]
+    cases = [*listed(oracle, searches), *paused(oracle), *refusals(), *records(), *checks(random), *smallest()]
     cases += listed(oracle, examples())
-    CRATE.joinpath("stdin").write_text("".join(case for case, _ in cases))
-    CRATE.joinpath("stdout").write_text("".join(answer for _, answer in cases))
-    print(f"{len(tasks)} listings, {len(cases)} cases")
+    write_list("relist", cases)
+    print(f"{len(searches)} listings, {len(cases)} cases")
 
 
 if __name__ == "__main__":

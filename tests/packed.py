@@ -67,10 +67,10 @@ def node_count(file):
     return (int.from_bytes(file[:3], "big") >> 15) & 255
 
 
-def write_search(folder, files):
+def write_files(folder, files):
     for name, data in zip(FILE_NAMES, files):
         Path(folder, name).write_bytes(data)
 
 
-def read_search(folder):
+def read_files(folder):
     return tuple(Path(folder, name).read_bytes() for name in FILE_NAMES)
