@@ -64,8 +64,7 @@ def pieces(directed):
 
 
 def switches():
-    for larger, vf2pp, induced, node_labels, edge_labels in itertools.product((True, False), repeat=5):
-        yield Settings(larger, vf2pp, induced, node_labels, edge_labels)
+    return [Settings(*each) for each in itertools.product((True, False), repeat=5)]
 
 
 def some_pieces(random, chance):
@@ -99,7 +98,7 @@ def listings(random):
 
 
 def pausing():
-    """A dozen cases in which every budget gives the same maps, the same ending and the same total of steps."""
+    """Thirteen searches in which every budget gives the same maps, the same ending and the same total of steps."""
     yield from ((PATH3, EDGE, Settings(limit=limit)) for limit in (None, 6, 1))
     yield PATH3, EDGE, Settings(vf2pp=True)
     yield TRIANGLE, PATH3, Settings()
