@@ -131,24 +131,41 @@ known c =
 past-6 : (c : tie.Else6) → Past 6 (text (entry-6 c))
 past-6 c = past (text (entry-6 c)) 5 (past-5 (c .before .before)) (known (c .before) ∙ c .if6 .left)
 
+refuse-requires : tie.Need-refuse-requires
+refuse-requires c κs = search needs
+
 returns : tie.Need-returns
-returns c = let e = c .before .before in refuses (e .args .file) (text e) 0 (below-none _) (lt-ltb _ 3 (c .if1 .taken))
+returns a =
+    let c = a .before in
+    let e = c .before .before in
+    a .refuse .ensures
+    ∙ refuses (e .args .file) (text e) 0 (below-none _) (lt-ltb _ 3 (c .if1 .taken))
 
 number-requires : tie.Need-number-requires
 number-requires c κs = search needs
 
+refuse-requires-2 : tie.Need-refuse-requires-2
+refuse-requires-2 c κs = search needs
+
 returns-2 : tie.Need-returns-2
-returns-2 c =
+returns-2 a =
+    let c = a .before in
     let e = entry-1 (c .before .before) in
-    refuses (e .args .file) (text e) 1 (past-1 (c .before .before)) (many-nodes (text e) _ (c .before .number .ensures) (c .if2 .taken))
+    a .refuse2 .ensures
+    ∙ refuses (e .args .file) (text e) 1 (past-1 (c .before .before)) (many-nodes (text e) _ (c .before .number .ensures) (c .if2 .taken))
 
 number-requires-2 : tie.Need-number-requires-2
 number-requires-2 c κs = search needs
 
+refuse-requires-3 : tie.Need-refuse-requires-3
+refuse-requires-3 c κs = search needs
+
 returns-3 : tie.Need-returns-3
-returns-3 c =
+returns-3 a =
+    let c = a .before in
     let e = entry-2 (c .before .before) in
-    refuses (e .args .file) (text e) 2 (past-2 (c .before .before)) (many-edges (text e) _ (c .before .number2 .ensures) (c .if3 .taken))
+    a .refuse3 .ensures
+    ∙ refuses (e .args .file) (text e) 2 (past-2 (c .before .before)) (many-edges (text e) _ (c .before .number2 .ensures) (c .if3 .taken))
 
 used-bits-requires : tie.Need-used-bits-requires
 used-bits-requires c κs = search needs
@@ -156,11 +173,16 @@ used-bits-requires c κs = search needs
 add-if4 : tie.Need-add-if4
 add-if4 c = search needs
 
+refuse-requires-4 : tie.Need-refuse-requires-4
+refuse-requires-4 c κs = search needs
+
 returns-4 : tie.Need-returns-4
-returns-4 c =
+returns-4 a =
+    let c = a .before in
     let e = entry-3 (c .before .before) in
     let z = sizes (c .before) in
-    refuses (e .args .file) (text e) 3 (past-3 (c .before .before)) (wrong-length (text e) _ _ _ (z .0) (z .1) (z .2) (c .if4 .taken))
+    a .refuse4 .ensures
+    ∙ refuses (e .args .file) (text e) 3 (past-3 (c .before .before)) (wrong-length (text e) _ _ _ (z .0) (z .1) (z .2) (c .if4 .taken))
 
 mul-number : tie.Need-mul-number
 mul-number c = search needs
@@ -171,18 +193,28 @@ sub-number c = search needs
 number-requires-3 : tie.Need-number-requires-3
 number-requires-3 c κs = search needs
 
+refuse-requires-5 : tie.Need-refuse-requires-5
+refuse-requires-5 c κs = search needs
+
 returns-5 : tie.Need-returns-5
-returns-5 c =
+returns-5 a =
+    let c = a .before in
     let e = entry-4 (c .before .before) in
-    refuses (e .args .file) (text e) 4 (past-4 (c .before .before)) (padded (c .before) ∙ ap not (ne-eqb _ 0 (c .if5 .taken)))
+    a .refuse5 .ensures
+    ∙ refuses (e .args .file) (text e) 4 (past-4 (c .before .before)) (padded (c .before) ∙ ap not (ne-eqb _ 0 (c .if5 .taken)))
 
 has-unknown-node-requires : tie.Need-has-unknown-node-requires
 has-unknown-node-requires c κs = search needs
 
+refuse-requires-6 : tie.Need-refuse-requires-6
+refuse-requires-6 c κs = search needs
+
 returns-6 : tie.Need-returns-6
-returns-6 c =
+returns-6 a =
+    let c = a .before in
     let e = entry-5 (c .before .before) in
-    refuses (e .args .file) (text e) 5 (past-5 (c .before .before)) (known (c .before) ∙ c .if6 .taken)
+    a .refuse6 .ensures
+    ∙ refuses (e .args .file) (text e) 5 (past-5 (c .before .before)) (known (c .before) ∙ c .if6 .taken)
 
 number-requires-4 : tie.Need-number-requires-4
 number-requires-4 c κs = search needs
@@ -199,19 +231,25 @@ pub read-file-spec : {M : Type 1} → statement M
 read-file-spec =
     tie.close
     (tie.spec
+    refuse-requires
     returns
     number-requires
+    refuse-requires-2
     returns-2
     number-requires-2
+    refuse-requires-3
     returns-3
     used-bits-requires
     add-if4
+    refuse-requires-4
     returns-4
     mul-number
     sub-number
     number-requires-3
+    refuse-requires-5
     returns-5
     has-unknown-node-requires
+    refuse-requires-6
     returns-6
     number-requires-4
     returns-7)
