@@ -5,6 +5,7 @@ pub mod Renumbered
 pub mod Rank
 pub mod Marks
 pub mod Firsts
+pub mod Filling
 pub mod Taking
 pub mod Rounds
 pub mod Prepared
