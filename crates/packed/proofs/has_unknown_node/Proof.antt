@@ -35,6 +35,15 @@ Inv-loop s nodes edges j₀ j =
 abbrev μ-loop : tie.MeasureT-loop
 μ-loop s nodes edges j₀ j = edges - j
 
+-- the test in the loop's turn says whether edge j names an unknown node
+answered : (c : tie.After-is-unknown Inv-loop μ-loop) → let head = c .before .before .before .before .before in let a = head .before .before .args in
+    c .is-unknown .result ≡ unknown (a .s .now) (a .nodes) (head .loop .j)
+answered c =
+    let head = c .before .before .before .before .before in
+    let a = head .before .before .args in
+    tested (a .s .now) (a .nodes) (head .loop .j) _ _ _ _ (c .before .before .before .used-bits .ensures)
+    (c .before .before .number .ensures) (c .before .number2 .ensures) (c .is-unknown .ensures)
+
 loop-holds : tie.Need-loop-holds Inv-loop μ-loop
 loop-holds c = let e : c .before .args .edges - 0 ≡ c .before .args .edges = omega arith in (omega arith, rw e)
 
@@ -55,11 +64,11 @@ is-unknown-requires c κs = tt
 
 returns : tie.Need-returns Inv-loop μ-loop
 returns c =
-    let a = c .before .before .before .before .before .before .before .before .args in
-    let l = c .before .before .before .before .before .before .loop in
-    let t = tested (a .s .now) (a .nodes) (l .j) _ _ _ _ (c .before .before .before .before .used-bits .ensures)
-    (c .before .before .before .number .ensures) (c .before .before .number2 .ensures) (c .before .is-unknown .ensures) in
-    sym (sym (l .inv .1) ∙ rw (split (a .s .now) (a .nodes) (l .j) (a .edges) (omega arith), ← t, c .if1 .taken))
+    let test = c .before in
+    let head = test .before .before .before .before .before in
+    let a = head .before .before .args in
+    let l = head .loop in
+    sym (sym (l .inv .1) ∙ rw (split (a .s .now) (a .nodes) (l .j) (a .edges) (omega arith), ← (answered test), c .if1 .taken))
 
 add-j : tie.Need-add-j Inv-loop μ-loop
 add-j c = omega arith
@@ -69,12 +78,12 @@ loop-less c = omega arith
 
 loop-again : tie.Need-loop-again Inv-loop μ-loop
 loop-again c =
-    let a = c .before .before .before .before .before .before .before .before .args in
-    let l = c .before .before .before .before .before .before .loop in
-    let t = tested (a .s .now) (a .nodes) (l .j) _ _ _ _ (c .before .before .before .before .used-bits .ensures)
-    (c .before .before .before .number .ensures) (c .before .before .number2 .ensures) (c .before .is-unknown .ensures) in (
+    let test = c .before in
+    let head = test .before .before .before .before .before in
+    let a = head .before .before .args in
+    let l = head .loop in (
       omega arith,
-      rw (split (a .s .now) (a .nodes) (l .j) (a .edges) (omega arith), ← t, c .if1 .left) at (l .inv .1),
+      rw (split (a .s .now) (a .nodes) (l .j) (a .edges) (omega arith), ← (answered test), c .if1 .left) at (l .inv .1),
     )
 
 returns-2 : tie.Need-returns-2 Inv-loop μ-loop

@@ -223,7 +223,8 @@ returns-7 : tie.Need-returns-7
 returns-7 c =
     let e = entry-6 (c .before) in
     let p = past-6 (c .before) in
-    let z = sizes (c .before .before .before .before .before .before) in
+    let padding-tested = c .before .before .before in
+    let z = sizes (padding-tested .before .before .before) in
     summary-of-graph (text e) _ _ _ (z .0) (z .1) (z .2) _ (c .number4 .ensures)
     ∙ sym (ap summary (accepts (e .args .file) (text e) (p 0 (lit< tt)) (p 1 (lit< tt)) (p 2 (lit< tt)) (p 3 (lit< tt)) (p 4 (lit< tt)) (p 5 (lit< tt))))
 
