@@ -44,6 +44,10 @@ Inv-loop text bytes₀ count i₀ bytes i =
 abbrev μ-loop : tie.MeasureT-loop
 μ-loop text bytes₀ count i₀ bytes i = count - i
 
+-- the loop's head, from where both digits of a byte are read
+abbrev head : tie.After-digit2 Inv-loop μ-loop → tie.At-loop Inv-loop μ-loop
+head c = c .before .before .before .before .before
+
 loop-holds : tie.Need-loop-holds Inv-loop μ-loop
 loop-holds c = (omega arith, refl, λ j h. absurd (omega arith), rw (from-none 0))
 
@@ -69,21 +73,21 @@ digit-requires-2 : tie.Need-digit-requires-2 Inv-loop μ-loop
 digit-requires-2 c κs = tt
 
 same-length : tie.Need-same-length Inv-loop μ-loop
-same-length c = c .before .before .before .before .before .before .loop .inv .1
+same-length c = head (c .before) .loop .inv .1
 
 returns : tie.Need-returns Inv-loop μ-loop
 returns c =
-    let i = c .before .before .before .before .before .before .loop .i in (
+    let i = head (c .before) .loop .i in (
       (λ e. absurd (false≢true e), λ d. absurd (omega (arith, d (2 * i) (omega arith)))),
       λ e. absurd (false≢true e),
     )
 
 same-length-2 : tie.Need-same-length-2 Inv-loop μ-loop
-same-length-2 c = c .before .before .before .before .before .before .before .loop .inv .1
+same-length-2 c = head (c .before .before) .loop .inv .1
 
 returns-2 : tie.Need-returns-2 Inv-loop μ-loop
 returns-2 c =
-    let i = c .before .before .before .before .before .before .before .loop .i in (
+    let i = head (c .before .before) .loop .i in (
       (λ e. absurd (false≢true e), λ d. absurd (omega (arith, d (2 * i + 1) (omega arith)))),
       λ e. absurd (false≢true e),
     )
@@ -105,10 +109,12 @@ loop-less c = omega arith
 
 loop-again : tie.Need-loop-again Inv-loop μ-loop
 loop-again c =
-    let l = c .before .before .before .before .before .before .before .loop in
-    let a = c .before .before .before .before .before .before .before .before .before .before .args in
+    let read = c .before .before in
+    let turn = read .before .before .before .before in
+    let l = turn .before .loop in
+    let a = turn .before .before .before .before .args in
     let text = a .text .now in
-    let byte : c .before .before .before .before .digit .result * 16 + c .before .before .digit2 .result ≡ byteAt text (l .i) = omega arith in (
+    let byte : read .before .before .digit .result * 16 + read .digit2 .result ≡ byteAt text (l .i) = omega arith in (
       omega arith,
       simp length-set (l .inv .1),
       digits-more text (l .i) (l .inv .2) (omega arith) (omega arith),

@@ -78,8 +78,9 @@ digit-requires c κs = tt
 
 returns : tie.Need-returns Inv-loop μ-loop
 returns c =
-    let a = c .before .before .before .before .before .before .args in
-    (sym (no-number (a .text .now) (a .at) (a .count) (c .before .before .before .before .loop .i) (omega arith) (omega arith)), omega arith)
+    let head = c .before .before .before .before in
+    let a = head .before .before .args in
+    (sym (no-number (a .text .now) (a .at) (a .count) (head .loop .i) (omega arith) (omega arith)), omega arith)
 
 mul-n : tie.Need-mul-n Inv-loop μ-loop
 mul-n c = omega (arith, power-at-most (c .before .before .before .before .loop .i) 4 (omega arith))
@@ -98,8 +99,9 @@ loop-less c = omega arith
 
 loop-again : tie.Need-loop-again Inv-loop μ-loop
 loop-again c =
-    let l = c .before .before .before .before .loop in
-    let a = c .before .before .before .before .before .before .args in
+    let head = c .before .before .before .before in
+    let l = head .loop in
+    let a = head .before .before .args in
     let text = a .text .now in
     let below : l .n * 10 + c .before .digit .result < 10 ^ (l .i + 1) = omega (arith, power-more (l .i)) in (
       omega arith,

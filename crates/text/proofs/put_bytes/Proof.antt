@@ -35,8 +35,9 @@ loop-less c = omega arith
 
 loop-again : tie.Need-loop-again Inv-loop μ-loop
 loop-again c =
-    let l = c .before .before .before .before .before .before .loop in
-    let a = c .before .before .before .before .before .before .before .before .before .args in
+    let turn = c .before .before .before .before .before in
+    let l = turn .before .loop in
+    let a = turn .before .before .before .before .args in
     let byte = c .before .before .put-byte .ensures in
     let put = puts-one {text = l .text} {b = getD (a .bytes .now) (l .i) 0} (omega arith) (byte .0) (byte .1) in (
       omega arith,

@@ -16,8 +16,10 @@ same-length c = search needs
 
 returns : tie.Need-returns
 returns c =
-    let blank = c .before .before .before .before .before .before .put-byte in
-    puts-then (omega arith) (puts-one (omega arith) (blank .ensures .0) (blank .ensures .1)) (c .before .before .put-number .ensures)
+    let number-put = c .before .before in
+    let blank-put = number-put .before .before .before .before in
+    let blank = blank-put .put-byte in
+    puts-then (omega arith) (puts-one (omega arith) (blank .ensures .0) (blank .ensures .1)) (number-put .put-number .ensures)
 
 pub put-field-spec : {M : Type 1} → statement M
 put-field-spec = tie.close (tie.spec put-byte-requires put-number-requires same-length returns)

@@ -40,8 +40,9 @@ loop-less c = search needs
 
 loop-again : tie.Need-loop-again Inv-loop μ-loop
 loop-again c =
-    let l = c .before .before .before .before .before .before .loop in
-    let a = c .before .before .before .before .before .before .before .before .before .args in
+    let turn = c .before .before .before .before .before in
+    let l = turn .before .loop in
+    let a = turn .before .before .before .before .args in
     let put = c .before .before .put-field .ensures in (
       omega arith,
       puts-length (omega arith) put ∙ l .inv .1,

@@ -25,6 +25,10 @@ Inv-loop text₀ at map end₀ i₀ i-end text end i =
 abbrev μ-loop : tie.MeasureT-loop
 μ-loop text₀ at map end₀ i₀ i-end text end i = i-end - i
 
+-- where the call begins, from where the word is put
+abbrev entry : tie.After-put-bytes Inv-loop μ-loop → tie.Start Inv-loop μ-loop
+entry c = c .before .before .before .before .before
+
 slice-aggregate-put-bytes : tie.Need-slice-aggregate-put-bytes Inv-loop μ-loop
 slice-aggregate-put-bytes c = search needs
 
@@ -33,8 +37,9 @@ put-bytes-requires c κs = search needs
 
 loop-holds : tie.Need-loop-holds Inv-loop μ-loop
 loop-holds c =
-    let word = c .before .before .put-bytes in
-    let pair = pairAt (c .before .before .before .before .before .before .before .args .map .now) in
+    let word-put = c .before .before in
+    let word = word-put .put-bytes in
+    let pair = pairAt (entry word-put .args .map .now) in
     (omega arith, omega arith, refl, rw (from-none 0, parts-none pair) (puts-none (word .last .0) (word .result) (omega arith)))
 
 mul-put-pair : tie.Need-mul-put-pair Inv-loop μ-loop
@@ -63,9 +68,11 @@ loop-less c = search needs
 
 loop-again : tie.Need-loop-again Inv-loop μ-loop
 loop-again c =
-    let l = c .before .before .before .before .before .before .before .loop in
-    let map = c .before .before .before .before .before .before .before .before .before .before .before .before .before .before .before .args .map .now in
-    let put = c .before .before .put-pair .ensures in (
+    let pair-put = c .before .before in
+    let head = pair-put .before .before .before .before .before in
+    let l = head .loop in
+    let map = entry (head .before .before .before) .args .map .now in
+    let put = pair-put .put-pair .ensures in (
       omega arith,
       l .inv .1,
       puts-length (omega arith) put ∙ l .inv .2,
@@ -78,10 +85,11 @@ same-length c = search needs
 returns : tie.Need-returns Inv-loop μ-loop
 returns c =
     let l = c .before .loop in
-    let map = c .before .before .before .before .before .before .before .before .before .args .map .now in
-    let word = c .before .before .before .before .put-bytes .ensures in
+    let word-put = c .before .before .before .before in
+    let map = entry word-put .args .map .now in
+    let word = word-put .put-bytes .ensures in
     let all : l .i ≡ length map / 2 = omega arith in
-    let known = c .before .before .before .before .before .before .before .shared-slice-known .given in
+    let known = word-put .before .before .before .shared-slice-known .given in
     let put = puts-then {first = 109 ∷ 97 ∷ 112 ∷ []} (omega arith) (record { holds = word .1; ends = word .0 }) (rw all at (l .inv .3)) in
     (put, omega (arith, put .ends, map-text-most map (λ i. omega (arith, known i))))
 

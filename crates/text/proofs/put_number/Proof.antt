@@ -24,9 +24,10 @@ same-length c = search needs
 
 returns : tie.Need-returns
 returns c =
-    let digits = c .before .before .before .before .before .decimal in
+    let answered = c .before .before .before .before .before in
+    let digits = answered .decimal in
     let put = c .before .before .put-bytes in
-    let n = c .before .before .before .before .before .before .before .before .args .n in
+    let n = answered .before .before .before .args .n in
     let spelled = decimal-is n (digits .result) (digits .ensures .1 .0) in
     record {
       holds = rw (digits .ensures .1 .1, sym spelled) at (put .ensures .1);

@@ -19,10 +19,13 @@ same-length c = search needs
 
 returns : tie.Need-returns
 returns c =
-    let colon = c .before .before .before .before .before .before .put-byte in
-    let field = c .before .before .before .before .before .before .before .before .before .before .put-field in
+    let number-put = c .before .before in
+    let colon-put = number-put .before .before .before .before in
+    let field-put = colon-put .before .before .before .before in
+    let colon = colon-put .put-byte in
+    let field = field-put .put-field in
     puts-then (omega arith) (field .ensures)
-    (puts-then (omega arith) (puts-one (omega arith) (colon .ensures .0) (colon .ensures .1)) (c .before .before .put-number .ensures))
+    (puts-then (omega arith) (puts-one (omega arith) (colon .ensures .0) (colon .ensures .1)) (number-put .put-number .ensures))
 
 pub put-pair-spec : {M : Type 1} → statement M
 put-pair-spec = tie.close (tie.spec put-field-requires put-byte-requires put-number-requires same-length returns)
