@@ -35,6 +35,14 @@ says code =
 said : (s : List ℕ) (code : ℕ) (told answered : Ordering) → code ≡ ordering s → answered ≡ orderingIn code → answered ≡ told → Says (ordering s) told
 said s code told answered e a t = rw (← t, a, e) (says (ordering s))
 
+-- what the ordering answered says of the bytes that are read
+module _ (c : tie.After-ordering-of) where
+  abbrev text : List ℕ
+  text = c .before .before .before .before .args .s .now
+
+  told : (o : Ordering) → c .ordering-of .result ≡ o → Says (ordering text) o
+  told o e = said text _ o _ (c .before .number .ensures) (c .ordering-of .ensures) e
+
 returns : tie.Need-returns
 returns c = sym (wrong-length (c .before .before .args .s .now) (c .if1 .taken))
 
@@ -49,18 +57,16 @@ enum-told c = search needs
 
 read-switches-requires : tie.Need-read-switches-requires
 read-switches-requires c κs =
-    let s = c .before .before .before .before .before .before .args .s .now in
-    let known = said s _ Equal _ (c .before .before .before .number .ensures) (c .before .before .ordering-of .ensures) (c .enum-told .given .1) in
-    (c .before .before .before .before .if1 .left, known)
+    let answered = c .before .before in
+    (answered .before .before .if1 .left, told answered Equal (c .enum-told .given .1))
 
 enum-told-2 : tie.Need-enum-told-2
 enum-told-2 c = search needs
 
 read-switches-requires-2 : tie.Need-read-switches-requires-2
 read-switches-requires-2 c κs =
-    let s = c .before .before .before .before .before .before .args .s .now in
-    let known = said s _ Greater _ (c .before .before .before .number .ensures) (c .before .before .ordering-of .ensures) (c .enum-told2 .given .1) in
-    (c .before .before .before .before .if1 .left, known)
+    let answered = c .before .before in
+    (answered .before .before .if1 .left, told answered Greater (c .enum-told2 .given .1))
 
 enum-told-3 : tie.Need-enum-told-3
 enum-told-3 c = search needs
@@ -73,9 +79,8 @@ returns-3 c = search needs
 
 returns-4 : tie.Need-returns-4
 returns-4 c =
-    let s = c .before .before .before .before .before .before .args .s .now in
-    let unknown = said s _ Unknown _ (c .before .before .before .number .ensures) (c .before .before .ordering-of .ensures) (c .enum-told3 .given .1) in
-    sym (unknown-ordering s (c .before .before .before .before .if1 .left) unknown)
+    let answered = c .before .before in
+    sym (unknown-ordering (text answered) (answered .before .before .if1 .left) (told answered Unknown (c .enum-told3 .given .1)))
 
 pub read-settings-spec : {M : Type 1} → statement M
 read-settings-spec =
