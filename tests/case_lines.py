@@ -1,11 +1,11 @@
-"""The lines of the programs `replay` and `relist`: cases, and answers to them, in the form that tests/README.md gives."""
+"""The lines of the programs `answer_orders` and `answer_searches`: cases, and answers to them, in the form that tests/README.md gives."""
 from pathlib import Path
 
 from packed import node_count
 
 PROJECT = Path(__file__).resolve().parent.parent
 FILL = 255  # every byte of an answer buffer before the call
-MAX_BUFFER = 256  # the longest buffer that replay lends
+MAX_BUFFER = 256  # the longest buffer that answer_orders lends
 MAX_BUDGET = 65535
 TOPS = {"outer": 0, "inner": 1, "unwind": 2}
 END = "\n.\n"  # of a listing's answer
@@ -15,7 +15,7 @@ def line(*words):
     return " ".join(str(word) for word in words) + "\n"
 
 
-def replay_case(call, buffer, file):
+def read_case(call, buffer, file):
     return f"{call:5} {buffer:04} {len(file):04} {file.hex()}\n"
 
 

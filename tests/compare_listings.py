@@ -1,10 +1,10 @@
 #!/usr/bin/env python3
 """Compares the searches with the Rust oracle on fresh random pairs of graphs: listings, endings and step counts.
 
-    tests/compare_listings.py --oracle ORACLE --relist PROGRAM [--list PROGRAM] --seed S --count K
+    tests/compare_listings.py --oracle ORACLE --answer_searches PROGRAM [--list PROGRAM] --seed S --count K
 
 prints how many cases there were and how many differed, and the smallest of those that differ. Each case is run through
-Start and Continue by the program `relist`, with one budget for all calls, and, where it is named, by the program `list`.
+Start and Continue by the program `answer_searches`, with one budget for all calls, and, where it is named, by the program `list`.
 """
 import random as randoms
 
@@ -47,8 +47,8 @@ def random_case(random):
 
 
 def differing(given, cases, rust):
-    """The differences of relist and, where it is named, of the listing program."""
-    found = differences(cases, rust, listing_answers(given.relist, [listing_case(*case) for case in cases]))
+    """The differences of answer_searches and, where it is named, of the listing program."""
+    found = differences(cases, rust, listing_answers(given.answer_searches, [listing_case(*case) for case in cases]))
     if given.list:
         printed = [printed_listing(given.list, case[:3]) for case in cases]
         found += differences(cases, [split_steps(listing)[0] for listing in rust], printed)
@@ -63,7 +63,7 @@ def show(difference):
 
 def main():
     words = words_of(__doc__)
-    add_programs(words, "oracle", "relist")
+    add_programs(words, "oracle", "answer_searches")
     add_programs(words, "list", required=False)
     add_random_cases(words, 20000)
     given = words.parse_args()

@@ -1,7 +1,7 @@
 #!/usr/bin/env python3
 """Damaged inputs through Read, Order, Start, Continue and Check, compared with the models written from document 01.
 
-    tests/damage.py --replay PROGRAM --relist PROGRAM --seed S --count K
+    tests/damage.py --answer_orders PROGRAM --answer_searches PROGRAM --seed S --count K
 
 makes that many inputs from the seed: sound files, settings, records and maps with bits flipped, bytes cut off, added, spliced or
 replaced, and bytes that are random altogether. The expected answers are those of the models, which share nothing with the
@@ -21,8 +21,8 @@ from read_model import Refused, read
 from search_model import MOST_ACCEPTED, OUTER, UNWIND, Record, Search, inner
 
 BATCH = 2000
-MAX_SETTINGS = 16  # the most that relist takes in a case
-PROGRAMS = ("replay", "relist")
+MAX_SETTINGS = 16  # the most that answer_searches takes in a case
+PROGRAMS = ("answer_orders", "answer_searches")
 
 
 def damaged(random, data, other):
@@ -59,7 +59,7 @@ def some_buffer(random, file):
     return random.choice([n, n, n + 2, max(n - 1, 0)])
 
 
-def replay_case(random, file):
+def read_case(random, file):
     call = random.choice(["read", "byid", "vf2pp"])
     return expected.read(file) if call == "read" else expected.ordered(call, file, some_buffer(random, file))
 
@@ -102,7 +102,7 @@ def some_record(random, files):
     return any_record(random) if random.random() < 0.2 else changed_record(random, passed_record(random, files))
 
 
-def relist_case(random, board, block):
+def damaged_case(random, board, block):
     switches = [random.random() < 0.5 for _ in range(5)]
     sound = pack_search(board, block, Settings(*switches, random.choice([None, None, 0, 1, 5, MAX_LIMIT])))
     file0, file1, settings = (perhaps(random, sound[each], sound[other], 0.15) for each, other in ((0, 1), (1, 0), (2, 0)))
@@ -130,9 +130,9 @@ def damaged_cases(random, count):
         board = small(random)
         block = part_of(random, board, random.randint(0, 3)) if random.random() < 0.5 else small(random, board.directed)
         if random.random() < 0.5:
-            cases["replay"].append(replay_case(random, perhaps(random, pack(board), pack(block), 0.9)))
+            cases["answer_orders"].append(read_case(random, perhaps(random, pack(board), pack(block), 0.9)))
         else:
-            cases["relist"].append(relist_case(random, board, block))
+            cases["answer_searches"].append(damaged_case(random, board, block))
     return cases
 
 
@@ -176,10 +176,10 @@ def main():
     given = words.parse_args()
     if given.write:
         write(given)
-    elif given.replay and given.relist:
+    elif given.answer_orders and given.answer_searches:
         compare(given)
     else:
-        words.error("--replay and --relist, or --write")
+        words.error("--answer_orders and --answer_searches, or --write")
 
 
 if __name__ == "__main__":

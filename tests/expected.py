@@ -1,8 +1,8 @@
-"""Cases of the five calls, each with the answer that the models give it: pairs of lines for `replay` or `relist`."""
+"""Cases of the five calls, each with the answer that the models give it: pairs of lines for `answer_orders` or `answer_searches`."""
 import order_model
 import read_model
 import search_model
-from case_lines import FILL, line, order_line, record_bytes, record_words, replay_case, search_case
+from case_lines import FILL, line, order_line, record_bytes, record_words, read_case, search_case
 from read_model import Refused
 
 
@@ -16,7 +16,7 @@ def read(file):
         words = "graph", int(graph.directed), len(graph.labels), len(graph.edges)
     except Refused as refused:
         words = refusal(refused)
-    return replay_case("read", 0, file), line(*words)
+    return read_case("read", 0, file), line(*words)
 
 
 def ordered(call, file, buffer):
@@ -25,7 +25,7 @@ def ordered(call, file, buffer):
         answer = order_line(order_model.node_order(read_model.read(file), call == "vf2pp"), buffer)
     except Refused as refused:
         answer = line(*refusal(refused), *[FILL] * buffer)
-    return replay_case(call, buffer, file), answer
+    return read_case(call, buffer, file), answer
 
 
 def started(file0, file1, settings):

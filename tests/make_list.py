@@ -1,16 +1,16 @@
 #!/usr/bin/env python3
-"""Makes the fixed list of cases of the replay program and the answers that must come.
+"""Makes the fixed list of cases of the answer_orders program and the answers that must come.
 
     tests/make_list.py ORACLE
 
-writes crates/replay/stdin and crates/replay/stdout. The node orders are the Rust oracle's; Read's answers and all refusals are
+writes crates/answer_orders/stdin and crates/answer_orders/stdout. The node orders are the Rust oracle's; Read's answers and all refusals are
 those of read_model.py. It stops where the model of the order differs from the Rust, and where the list would not tell a wrong
 reading of the order.
 """
 import random as randoms
 
 import expected
-from case_lines import MAX_BUFFER, order_line, replay_case, write_list
+from case_lines import MAX_BUFFER, order_line, read_case, write_list
 from options import oracle_alone
 from oracle import rust_orders
 from order_model import WRONG, vf2pp
@@ -129,7 +129,7 @@ def order_cases(random, oracle):
         for call, ids in (("byid", by_id), ("vf2pp", plus_plus)):
             buffers = [n] + [random.randint(n + 1, min(n + 9, MAX_BUFFER))] * (i % 3 == 0) + [n - 1] * (i % 4 == 1 and n > 0)
             for buffer in buffers:
-                yield replay_case(call, buffer, file), order_line(ids, buffer)
+                yield read_case(call, buffer, file), order_line(ids, buffer)
 
 
 # The files that Read turns away, and their neighbours that it takes.
@@ -247,7 +247,7 @@ def read_cases(random):
 def main():
     random = randoms.Random(1)
     cases = [*order_cases(random, oracle_alone(__doc__)), *read_cases(random)]
-    write_list("replay", cases)
+    write_list("answer_orders", cases)
     print(f"{len(cases)} cases")
 
 

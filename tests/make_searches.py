@@ -1,5 +1,5 @@
 #!/usr/bin/env python3
-"""Writes the fixed list of searches, crates/relist/stdin and crates/relist/stdout.
+"""Writes the fixed list of searches, crates/answer_searches/stdin and crates/answer_searches/stdout.
 
     tests/make_searches.py ORACLE
 
@@ -260,7 +260,7 @@ def main():
     searches = [pack_search(*each) for each in listings(random)]
     cases = [*listed(oracle, searches), *paused(oracle), *refusals(), *records(), *checks(random), *smallest()]
     cases += listed(oracle, examples())
-    write_list("relist", cases)
+    write_list("answer_searches", cases)
     print(f"{len(searches)} listings, {len(cases)} cases")
 
 

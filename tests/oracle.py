@@ -21,7 +21,7 @@ def rust_orders(oracle, files):
 
 
 def rust_listings(oracle, searches):
-    """For each (file 0, file 1, settings) the Rust's listing with its steps, in the relist program's form."""
+    """For each (file 0, file 1, settings) the Rust's listing with its steps, in the answer_searches program's form."""
     answers = whole_listings(ask(oracle, ["L " + " ".join(file.hex() for file in files) + "\n" for files in searches]))
     expect_number(answers, len(searches))
     return answers

@@ -9,9 +9,9 @@ use native.Mathlib.Omega.{arith}
 use lib.Dec.{eqb, lit<}
 use lib.ListN.{getD}
 use borrow.Author.Tests.{eqb-true, eqb-false, eq-eqb, ne-eqb}
-use Rattle.lists.specs.Lists.{from, any}
-use Rattle.lists.proofs.Tests.{case}
-use Rattle.lists.proofs.Laws.{from-none, from-more, any-nil, any-cons, any-append}
+use Rattle.basics.specs.Lists.{from, any}
+use Rattle.basics.proofs.Tests.{case}
+use Rattle.basics.proofs.Laws.{from-none, from-more, any-nil, any-cons, any-append}
 use Rattle.bits.specs.Bits.{bitAt, field}
 
 pub bit-below : (s : List ℕ) (o : ℕ) → bitAt s o < 2

@@ -1,8 +1,6 @@
 pub mod Handed
-pub mod Found
-pub mod Images
-pub mod Tables
 pub mod Answered
+pub mod Searched
 pub mod Begun
 pub mod Judged
 pub mod Outcomes

@@ -1,3 +1,3 @@
-pub mod Tables
 pub mod Paper
 pub mod Outcome
+pub mod Accepted

@@ -4,7 +4,6 @@ pub mod Entries
 pub mod Renumbered
 pub mod Rank
 pub mod Marks
-pub mod Firsts
 pub mod Filling
 pub mod Taking
 pub mod Rounds

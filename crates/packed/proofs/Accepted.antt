@@ -8,10 +8,10 @@ use native.Mathlib.Omega.{arith}
 use lib.Dec.{ltb, eqb}
 use lib.ListN.{length, getD, length-map}
 use borrow.Author.Tests.{ltb-true, ltb-false, eqb-true, not-false}
-use Rattle.lists.specs.Lists.{from}
-use Rattle.lists.proofs.Laws.{from-length, from-at, map-at}
-use Rattle.lists.proofs.Tests.{and-left, and-right}
-use Rattle.lists.proofs.Decides.{none-passes}
+use Rattle.basics.specs.Lists.{from}
+use Rattle.basics.proofs.Laws.{from-length, from-at, map-at}
+use Rattle.basics.proofs.Tests.{and-left, and-right}
+use Rattle.basics.proofs.Decides.{none-passes}
 use Rattle.bits.specs.Bits.{field}
 use Rattle.bits.proofs.Laws.{field-zero}
 use Rattle.packed.specs.Graph.{Edge, Graph, nodes}

@@ -9,8 +9,8 @@ use lib.Dec.{eqb}
 use lib.ListN.{length}
 use lib.Seq.{ext-getD}
 use borrow.Author.Tests.{eqb-true, eqb-false}
-use Rattle.lists.proofs.Tests.{case}
-use Rattle.lists.proofs.Laws.{map-from}
+use Rattle.basics.proofs.Tests.{case}
+use Rattle.basics.proofs.Laws.{map-from}
 use Rattle.bits.specs.Bits.{field}
 use Rattle.bits.proofs.Laws.{field-below, field-part, field-beside, fields-beside, byte-field}
 use Rattle.packed.specs.Graph.{Edge, Graph}

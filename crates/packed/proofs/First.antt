@@ -10,7 +10,7 @@ use native.Mathlib.Nat.{zero-add}
 use native.Mathlib.Numerals.{add-one}
 use native.Mathlib.Omega.{arith}
 use lib.ListN.{getD}
-use Rattle.lists.proofs.Tests.{case, option-case, none-not-some, never}
+use Rattle.basics.proofs.Tests.{case, option-case, none-not-some, never}
 use Rattle.packed.specs.Graph.{Graph}
 use Rattle.packed.specs.Packed.{graphOf}
 use Rattle.packed.specs.Refusals.{Refused, Line, line, first, tooShort, tooManyNodes, tooManyEdges, wrongLength, paddingBit, unknownNode, fileLines, graph, refusal, orGraph, reading}

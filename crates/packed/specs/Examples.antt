@@ -1,15 +1,13 @@
 -- Document 01's files, read by the definitions: the worked listing's two graphs, the empty graph, and a file at each refusal.
 use Prim.Native.Nat.{ℕ}
-use mathlib.Core.Bool.{true, false}
+use mathlib.Core.Bool.{false}
 use mathlib.Core.List.{List, [], _∷_}
-use mathlib.Core.Option.{none, some}
 use mathlib.Core.Path.{_≡_, refl}
-use Rattle.lists.specs.Lists.{from, any}
+use Rattle.basics.specs.Lists.{from, any}
 use Rattle.bits.specs.Bits.{field}
 use Rattle.packed.specs.Graph.{Edge}
 use Rattle.packed.specs.Packed.{graphOf}
 use Rattle.packed.specs.Refusals.{first, fileLines, reading, graph, refusal}
-use Rattle.packed.specs.Settings.{settingsOf, settingsLines}
 
 abbrev pub edge : ℕ → ℕ → Edge
 edge a b = record { source = a; target = b; label = 0 }
@@ -64,18 +62,3 @@ padding = refl
 names-no-node : refuses (0x00 ∷ 0x80 ∷ 0x10 ∷ 0 ∷ 0 ∷ 0x04 ∷ 0 ∷ []) 6
 unfolding reading fileLines first graphOf from any field
 names-no-node = refl
-
--- the worked listing's settings: Greater, by id, nothing compared, no limit
-worked-settings : settingsOf (0x40 ∷ 0 ∷ 0 ∷ 0 ∷ 0 ∷ [])
-    ≡ record { greater = true; vf2pp = false; induced = false; nodeLabels = false; edgeLabels = false; limit = none }
-unfolding settingsOf field
-worked-settings = refl
-
--- the largest limit passes, one more does not
-largest-limit : first (settingsLines (0x02 ∷ 0xff ∷ 0xff ∷ 0xff ∷ 0xfe ∷ [])) ≡ none
-unfolding settingsLines first field
-largest-limit = refl
-
-over-the-limit : first (settingsLines (0x02 ∷ 0xff ∷ 0xff ∷ 0xff ∷ 0xff ∷ [])) ≡ some (record { number = 8; file = 0 })
-unfolding settingsLines first field
-over-the-limit = refl

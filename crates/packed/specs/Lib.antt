@@ -1,7 +1,6 @@
 pub mod Graph
 pub mod Packed
 pub mod Refusals
-pub mod Settings
 pub mod Table
 pub mod Determined
 pub mod Paper

@@ -3,7 +3,7 @@
 use Prim.Native.Nat.{ℕ, _+_, _*_, _/_}
 use mathlib.Core.List.{List, map}
 use lib.Dec.{eqb}
-use Rattle.lists.specs.Lists.{from}
+use Rattle.basics.specs.Lists.{from}
 use Rattle.bits.specs.Bits.{field}
 use Rattle.packed.specs.Graph.{Edge, Graph}
 

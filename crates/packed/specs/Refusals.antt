@@ -6,7 +6,7 @@ use mathlib.Core.List.{List, [], _∷_}
 use mathlib.Core.Option.{Option, none, some}
 use lib.Dec.{eqb, ltb}
 use lib.ListN.{length}
-use Rattle.lists.specs.Lists.{from, any}
+use Rattle.basics.specs.Lists.{from, any}
 use Rattle.bits.specs.Bits.{bitAt}
 use Rattle.packed.specs.Graph.{Edge, Graph}
 use Rattle.packed.specs.Packed.{nodeCount, edgeCount, edgeAt, usedBits, fileLength, graphOf}

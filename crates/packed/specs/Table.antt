@@ -1,16 +1,12 @@
--- What the lines of the refusal table say of a file and of the settings (document 01, "The five outer calls and what they turn
--- away"), and the claims that a refusal is given exactly when its line says so and no line before it does.
+-- What the lines of the refusal table say of a file (document 01, "The five outer calls and what they turn away"), and the claims that a refusal is given exactly when its line says so and no line before it does.
 use Prim.Native.Nat.{ℕ, zero, suc, _*_, _≤_, _<_}
-use mathlib.Core.Bool.{true, false}
 use mathlib.Core.List.{List, [], _∷_}
 use mathlib.Core.Logic.{_↔_, _⊎_}
-use mathlib.Core.Option.{none, some}
 use mathlib.Core.Path.{_≡_}
 use lib.ListN.{length, getD}
 use Rattle.bits.specs.Bits.{bitAt}
 use Rattle.packed.specs.Packed.{nodeCount, edgeCount, edgeAt, usedBits, fileLength, graphOf}
-use Rattle.packed.specs.Refusals.{first, graph, refusal, reading}
-use Rattle.packed.specs.Settings.{ordering, spare, limited, limitField, settingsLines}
+use Rattle.packed.specs.Refusals.{graph, refusal, reading}
 
 -- 1: a file has fewer than 3 bytes
 abbrev pub FewerThanThreeBytes : List ℕ → Type 0
@@ -65,18 +61,3 @@ GivenExactly k file s = (reading file s ≡ refusal (record { number = k; file =
 
 abbrev pub AcceptedExactly : ℕ → List ℕ → Type 0
 AcceptedExactly file s = (reading file s ≡ graph (graphOf s)) ↔ ((k : ℕ) → Says k s → ⊥)
-
--- 8: settings not 5 bytes, ordering 2 or 3, spare bit 1, limit over its maximum, or limit not zero with limited 0
-abbrev pub NotSettings : List ℕ → Type 0
-NotSettings s =
-    (length s ≡ 5 → ⊥)
-    ⊎ ((ordering s ≡ 2) ⊎ (ordering s ≡ 3))
-    ⊎ (spare s ≡ true)
-    ⊎ (4294967294 < limitField s)
-    ⊎ ((limited s ≡ false) × (limitField s ≡ 0 → ⊥))
-
-abbrev pub SettingsRefusedExactly : List ℕ → Type 0
-SettingsRefusedExactly s = (first (settingsLines s) ≡ some (record { number = 8; file = 0 })) ↔ NotSettings s
-
-abbrev pub SettingsAcceptedExactly : List ℕ → Type 0
-SettingsAcceptedExactly s = (first (settingsLines s) ≡ none) ↔ (NotSettings s → ⊥)

@@ -5,16 +5,17 @@ use mathlib.Core.List.{List, [], _∷_}
 use mathlib.Core.Path.{_≡_, refl}
 use lib.ListN.{length}
 use borrow.Author.Tests.{le-leb}
-use Rattle.lists.proofs.Tests.{case, option-case, never, and-intro}
+use Rattle.basics.proofs.Tests.{case, option-case, never, and-intro}
 use Rattle.packed.specs.Graph.{nodes}
 use Rattle.rules.specs.Task.{Task}
 use Rattle.rules.specs.Search.{Top, Outer, Inner, Unwind, Record, started, candidateAt, onward, accepts, above, raised, step, continue, acceptedPath, topOffered, acceptedRecord}
 use Rattle.placements.specs.Listed.{whole}
 use Rattle.placements.specs.Claims.{Sound, AcceptedStays, EveryMapPlaces}
+use Rattle.rules.proofs.Runs.{run-keeps, run-found}
 use Rattle.rules.proofs.Stays.{record-passes, outer-offered, onward-offered, path-joined, path-last}
 use Rattle.placements.proofs.Paths.{accepted-nil, depth₀, depth₁}
 use Rattle.placements.proofs.Placed.{path-places}
-use Rattle.placements.proofs.Steps.{step-candidate, step-none, step-taken, step-over, step-passed, step-left, step-end, run-keeps, run-found}
+use Rattle.placements.proofs.Steps.{step-candidate, step-none, step-taken, step-over, step-passed, step-left, step-end}
 
 module _ (t : Task) where
   -- an accepted path, and an Inner position in the candidate's list

@@ -7,9 +7,9 @@ use mathlib.Core.Option.{some}
 use mathlib.Core.Path.{_≡_, refl, sym, _∙_}
 use lib.Dec.{eqb, ltb}
 use borrow.Author.Tests.{eqb-true, ltb-true, lt-ltb}
-use Rattle.lists.specs.Lists.{member}
-use Rattle.lists.proofs.Tests.{case, never, none-not-some}
-use Rattle.lists.proofs.Laws.{any-nil, any-cons, member-nil, member-head, member-tail, member-cases}
+use Rattle.basics.specs.Lists.{member}
+use Rattle.basics.proofs.Tests.{case, never, none-not-some}
+use Rattle.basics.proofs.Laws.{any-nil, any-cons, member-nil, member-head, member-tail, member-cases}
 use Rattle.rules.specs.Task.{Pairs, exchanged, mapped, partner}
 use Rattle.rules.specs.Marks.{follows}
 use Rattle.rules.proofs.Laws.{partner-nil, partner-own, partner-other}

@@ -6,9 +6,9 @@ use mathlib.Core.List.{List, [], _∷_}
 use mathlib.Core.Path.{_≡_, refl}
 use native.Mathlib.Omega.{arith}
 use lib.ListN.{length}
-use Rattle.lists.specs.Lists.{total, member}
-use Rattle.lists.proofs.Tests.{case}
-use Rattle.lists.proofs.Laws.{total-nil, total-cons, member-head, member-tail}
+use Rattle.basics.specs.Lists.{total, member}
+use Rattle.basics.proofs.Tests.{case}
+use Rattle.basics.proofs.Laws.{total-nil, total-cons, member-head, member-tail}
 use Rattle.packed.specs.Graph.{nodes}
 use Rattle.rules.specs.Task.{Task}
 use Rattle.rules.specs.Search.{accepts, acceptedPath}

@@ -3,12 +3,11 @@
 use Prim.Native.Nat.{ℕ, zero, suc, _+_}
 use mathlib.Core.Path.{_≡_, refl, _∙_, ap}
 use native.Mathlib.Omega.{arith}
-use Rattle.lists.proofs.Tests.{case, option-case}
+use Rattle.basics.proofs.Tests.{case, option-case}
 use Rattle.rules.specs.Task.{Task}
 use Rattle.rules.specs.Search.{Record, step, Found, Paused, stops, Went, run, continue}
 use Rattle.placements.specs.Claims.{Budgets}
-use Rattle.rules.proofs.Runs.{run-stops, run-pauses, run-finds, run-goes-on, run-within}
-use Rattle.placements.proofs.Steps.{stops-not-paused}
+use Rattle.rules.proofs.Runs.{run-stops, run-pauses, run-finds, run-goes-on, run-within, stops-not-paused}
 
 module _ (t : Task) where
   abbrev stepped : Record → Record

@@ -7,7 +7,7 @@ use mathlib.Core.Path.{_≡_, refl, sym, _∙_, ap}
 use native.Mathlib.Omega.{arith}
 use lib.ListN.{length}
 use borrow.Author.Tests.{le-ltb}
-use Rattle.lists.proofs.Tests.{option-case}
+use Rattle.basics.proofs.Tests.{option-case}
 use Rattle.rules.specs.Task.{Task, countsAgree}
 use Rattle.rules.specs.Search.{Unwind, Record, started, above, Found, None, Limit, Paused, continue}
 use Rattle.placements.specs.Listed.{listed, stepsOf, acceptedOf}

@@ -6,9 +6,9 @@ use mathlib.Core.Option.{Option, none, some}
 use mathlib.Core.Path.{_≡_, refl, sym}
 use native.Mathlib.Omega.{arith}
 use lib.Dec.{ltb}
-use Rattle.lists.specs.Lists.{from, keep, member}
-use Rattle.lists.proofs.Tests.{never, false-by, none-not-some}
-use Rattle.lists.proofs.Laws.{member-nil, member-kept, from-member}
+use Rattle.basics.specs.Lists.{from, keep, member}
+use Rattle.basics.proofs.Tests.{never, false-by, none-not-some}
+use Rattle.basics.proofs.Laws.{member-nil, member-kept, from-member}
 use Rattle.packed.specs.Graph.{nodes}
 use Rattle.rules.specs.Task.{Task, Pairs, exchanged, mapped}
 use Rattle.rules.specs.Marks.{OpenList, Out, In, Other, inList, head, least, Candidate, both, orElse, leastOf, candidate}

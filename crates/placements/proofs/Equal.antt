@@ -8,9 +8,9 @@ use mathlib.Core.Path.{_≡_, refl, sym, _∙_}
 use native.Mathlib.Omega.{arith}
 use lib.Dec.{eqb}
 use lib.ListN.{length}
-use Rattle.lists.specs.Lists.{count}
-use Rattle.lists.proofs.Tests.{case, eqb-swap}
-use Rattle.lists.proofs.Laws.{count-nil, count-cons}
+use Rattle.basics.specs.Lists.{count}
+use Rattle.basics.proofs.Tests.{case, eqb-swap}
+use Rattle.basics.proofs.Laws.{count-nil, count-cons}
 use Rattle.packed.specs.Graph.{Edge}
 use Rattle.graph.specs.Walk.{joins, leads}
 use Rattle.graph.specs.Within.{Within}

@@ -8,14 +8,14 @@ use native.Mathlib.Omega.{arith}
 use lib.Dec.{eqb, ltb}
 use lib.ListN.{length}
 use borrow.Author.Tests.{ltb-false}
-use Rattle.lists.specs.Lists.{from}
-use Rattle.lists.proofs.Tests.{case, none-not-some, never}
-use Rattle.lists.proofs.Laws.{from-none, from-suc}
+use Rattle.basics.specs.Lists.{from}
+use Rattle.basics.proofs.Tests.{case, none-not-some, never}
+use Rattle.basics.proofs.Laws.{from-none, from-suc}
 use Rattle.bits.proofs.Laws.{field-below}
 use Rattle.packed.specs.Graph.{Edge, Graph}
 use Rattle.packed.specs.Packed.{nodeCount, edgeCount, edgeOffset, edgeAt, graphOf}
 use Rattle.packed.specs.Refusals.{graph, reading}
-use Rattle.packed.specs.Settings.{ordering, limited, spare, limitField, settingsOf}
+use Rattle.settings.specs.Settings.{ordering, limited, spare, limitField, settingsOf}
 use Rattle.packed.proofs.Accepted.{accepted, graph-of}
 use Rattle.graph.proofs.Files.{graph-within}
 use Rattle.placements.specs.Claims.{LabelsBelow, AcceptedFile, FilesEnsure, SettingsEnsure}

@@ -9,11 +9,11 @@ use native.Mathlib.Omega.{arith}
 use lib.Dec.{eqb}
 use lib.ListN.{length, getD}
 use borrow.Author.Tests.{eqb-true, eq-eqb, le-leb}
-use Rattle.lists.specs.Lists.{from, place}
-use Rattle.lists.proofs.Tests.{never, and-intro, and-left, and-right, by-iff}
-use Rattle.lists.proofs.Laws.{from-none, from-suc, map-from-same}
+use Rattle.basics.specs.Lists.{from, place}
+use Rattle.basics.proofs.Tests.{never, and-intro, and-left, and-right, by-iff}
+use Rattle.basics.proofs.Laws.{from-none, from-suc, map-from-same}
 use Rattle.packed.specs.Graph.{Graph, nodes}
-use Rattle.packed.specs.Settings.{Settings}
+use Rattle.settings.specs.Settings.{Settings}
 use Rattle.order.specs.Order.{nodeOrder}
 use Rattle.order.proofs.Once.{order-holds-each-once}
 use Rattle.order.proofs.Renumbered.{order-keeps-nodes}

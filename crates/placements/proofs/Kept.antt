@@ -7,9 +7,9 @@ use lib.Dec.{eqb, ltb}
 use lib.ListN.{length}
 use borrow.Author.Tests.{eqb-true, ltb-true, ltb-false}
 use Rattle.rules.specs.Task.{graphsAgree}
-use Rattle.lists.proofs.Tests.{case, and-left, and-right}
+use Rattle.basics.proofs.Tests.{case, and-left, and-right}
 use Rattle.packed.specs.Graph.{Graph, nodes}
-use Rattle.packed.specs.Settings.{Settings}
+use Rattle.settings.specs.Settings.{Settings}
 use Rattle.graph.specs.Walk.{between, turned}
 use Rattle.graph.specs.Within.{Within}
 use Rattle.graph.proofs.Walk.{within-turned, between-turned}

@@ -7,11 +7,11 @@ use mathlib.Core.Path.{_≡_, refl, sym, _∙_}
 use native.Mathlib.Omega.{arith}
 use lib.Dec.{eqb}
 use borrow.Author.Tests.{ne-eqb}
-use Rattle.lists.specs.Lists.{count}
-use Rattle.lists.proofs.Tests.{case, eqb-swap}
-use Rattle.lists.proofs.Laws.{count-nil, count-cons, count-same, count-map}
+use Rattle.basics.specs.Lists.{count}
+use Rattle.basics.proofs.Tests.{case, eqb-swap}
+use Rattle.basics.proofs.Laws.{count-nil, count-cons, count-same, count-map}
 use Rattle.packed.specs.Graph.{Edge, Graph}
-use Rattle.packed.specs.Settings.{Settings}
+use Rattle.settings.specs.Settings.{Settings}
 use Rattle.graph.specs.Walk.{joins, between, turn, turned}
 use Rattle.order.specs.Claims.{labelledBetween}
 use Rattle.rules.specs.Placement.{ofLabel, edgesOf}

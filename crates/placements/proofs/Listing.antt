@@ -9,7 +9,7 @@ use native.Mathlib.Omega.{arith}
 use lib.Dec.{ltb}
 use lib.ListN.{length}
 use borrow.Author.Tests.{ltb-true, ltb-false, lt-ltb, le-ltb}
-use Rattle.lists.proofs.Tests.{case, none-not-some}
+use Rattle.basics.proofs.Tests.{case, none-not-some}
 use Rattle.rules.specs.Task.{Task, countsAgree}
 use Rattle.rules.specs.Search.{Top, Outer, Inner, Record, started, above, Answer, None, Limit}
 use Rattle.placements.specs.Listed.{whole, listed, stepsOf, acceptedOf}

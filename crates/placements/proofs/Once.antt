@@ -9,10 +9,10 @@ use native.Mathlib.Omega.{arith}
 use lib.Dec.{eqb}
 use lib.ListN.{length}
 use borrow.Author.Tests.{eqb-true, eqb-false, eq-eqb, not-false}
-use Rattle.lists.specs.Lists.{from, count, keep, member}
-use Rattle.lists.proofs.Tests.{case, option-case, never, and-intro, and-left, and-right, false-by, by-iff}
-use Rattle.lists.proofs.Laws.{from-length, count-nil, count-cons, count-append, keep-nil, keep-true, keep-false, member-head, member-tail, member-from}
-use Rattle.lists.proofs.Distinct.{distinct-below, distinct-from, distinct-among}
+use Rattle.basics.specs.Lists.{from, count, keep, member}
+use Rattle.basics.proofs.Tests.{case, option-case, never, and-intro, and-left, and-right, false-by, by-iff}
+use Rattle.basics.proofs.Laws.{from-length, count-nil, count-cons, count-append, keep-nil, keep-true, keep-false, member-head, member-tail, member-from}
+use Rattle.basics.proofs.Distinct.{distinct-below, distinct-from, distinct-among}
 use Rattle.packed.specs.Graph.{nodes}
 use Rattle.rules.specs.Task.{Task, countsAgree, exchanged, mapped, partner}
 use Rattle.rules.specs.Marks.{Candidate}

@@ -9,9 +9,9 @@ use mathlib.Core.Path.{_≡_, refl, sym, _∙_}
 use native.Mathlib.Omega.{arith}
 use lib.ListN.{getD}
 use borrow.Author.Tests.{eq-eqb, le-leb, not-true}
-use Rattle.lists.specs.Lists.{from, count, member}
-use Rattle.lists.proofs.Tests.{case, never, and-intro, and-left, and-right, false-by, by-iff}
-use Rattle.lists.proofs.Laws.{count-all}
+use Rattle.basics.specs.Lists.{from, count, member}
+use Rattle.basics.proofs.Tests.{case, never, and-intro, and-left, and-right, false-by, by-iff}
+use Rattle.basics.proofs.Laws.{count-all}
 use Rattle.packed.specs.Graph.{Graph, nodes}
 use Rattle.graph.specs.Walk.{between, walk, turned}
 use Rattle.graph.proofs.Walk.{walk-count}

@@ -7,10 +7,10 @@ use mathlib.Core.Path.{_≡_, refl}
 use native.Mathlib.Omega.{arith}
 use lib.ListN.{length, length-append}
 use borrow.Author.Tests.{eq-eqb}
-use Rattle.lists.specs.Lists.{Distinct, from, member}
-use Rattle.lists.proofs.Tests.{option-case}
-use Rattle.lists.proofs.Laws.{keep-from-none, member-head, member-tail, member-append, member-keep}
-use Rattle.lists.proofs.Distinct.{distinct-length, distinct-from, distinct-keep}
+use Rattle.basics.specs.Lists.{Distinct, from, member}
+use Rattle.basics.proofs.Tests.{option-case}
+use Rattle.basics.proofs.Laws.{keep-from-none, member-head, member-tail, member-append, member-keep}
+use Rattle.basics.proofs.Distinct.{distinct-length, distinct-from, distinct-keep}
 use Rattle.packed.specs.Graph.{nodes}
 use Rattle.rules.specs.Task.{Task, exchanged, mapped}
 use Rattle.rules.specs.Search.{pairsOf, candidateAt, offered, acceptedPath}

@@ -9,11 +9,11 @@ use mathlib.Core.Path.{_≡_, refl, sym, _∙_, ap}
 use lib.Dec.{eqb}
 use lib.ListN.{length, getD}
 use borrow.Author.Tests.{eqb-true, eq-eqb}
-use Rattle.lists.specs.Lists.{Distinct, member}
-use Rattle.lists.proofs.Tests.{case, option-case, none-not-some, never, and-left, and-right, false-by}
-use Rattle.lists.proofs.Distinct.{distinct-all, distinct-below}
+use Rattle.basics.specs.Lists.{Distinct, member}
+use Rattle.basics.proofs.Tests.{case, option-case, none-not-some, never, and-left, and-right, false-by}
+use Rattle.basics.proofs.Distinct.{distinct-all, distinct-below}
 use Rattle.packed.specs.Graph.{Graph, nodes}
-use Rattle.packed.specs.Settings.{Settings}
+use Rattle.settings.specs.Settings.{Settings}
 use Rattle.graph.specs.Walk.{between, turned}
 use Rattle.graph.specs.Within.{Within}
 use Rattle.graph.proofs.Walk.{within-turned}

@@ -7,9 +7,9 @@ use mathlib.Core.Option.{some}
 use mathlib.Core.Path.{_≡_, refl, sym, _∙_}
 use native.Mathlib.Omega.{arith}
 use lib.ListN.{length}
-use Rattle.lists.specs.Lists.{from, keep, total, member}
-use Rattle.lists.proofs.Tests.{case, none-not-some, never}
-use Rattle.lists.proofs.Laws.{total-cons, member-nil, member-cases, member-head, member-tail, member-kept, from-member}
+use Rattle.basics.specs.Lists.{from, keep, total, member}
+use Rattle.basics.proofs.Tests.{case, none-not-some, never}
+use Rattle.basics.proofs.Laws.{total-cons, member-nil, member-cases, member-head, member-tail, member-kept, from-member}
 use Rattle.packed.specs.Graph.{nodes}
 use Rattle.rules.specs.Task.{Task}
 use Rattle.rules.specs.Marks.{Candidate, head}

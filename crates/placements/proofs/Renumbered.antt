@@ -6,13 +6,13 @@ use mathlib.Core.List.{List, [], _∷_, map}
 use mathlib.Core.Path.{_≡_, refl, sym, _∙_, ap}
 use native.Mathlib.Omega.{arith}
 use lib.ListN.{length, getD, length-map}
-use Rattle.lists.specs.Lists.{place}
-use Rattle.lists.proofs.Tests.{case}
-use Rattle.lists.proofs.Laws.{member-at}
-use Rattle.lists.proofs.Distinct.{distinct-below}
-use Rattle.lists.proofs.Place.{place-at, at-place}
+use Rattle.basics.specs.Lists.{place}
+use Rattle.basics.proofs.Tests.{case}
+use Rattle.basics.proofs.Laws.{member-at}
+use Rattle.basics.proofs.Distinct.{distinct-below}
+use Rattle.basics.proofs.Place.{place-at, at-place}
 use Rattle.packed.specs.Graph.{Edge, Graph, nodes}
-use Rattle.packed.specs.Settings.{Settings}
+use Rattle.settings.specs.Settings.{Settings}
 use Rattle.order.specs.Order.{nodeOrder}
 use Rattle.order.specs.Renumber.{renumberEdge, renumbered}
 use Rattle.order.proofs.Once.{order-distinct, order-member, order-holds-each-once}

@@ -8,9 +8,9 @@ use mathlib.Core.Path.{_≡_, refl, sym, _∙_, ap}
 use native.Mathlib.Omega.{arith}
 use lib.ListN.{length}
 use borrow.Author.Tests.{lt-ltb}
-use Rattle.lists.specs.Lists.{from, keep, total, member}
-use Rattle.lists.proofs.Tests.{case, option-case, none-not-some}
-use Rattle.lists.proofs.Laws.{from-none, from-suc, keep-nil, keep-true, keep-false, keep-same-from, total-nil, total-cons, member-head, member-tail}
+use Rattle.basics.specs.Lists.{from, keep, total, member}
+use Rattle.basics.proofs.Tests.{case, option-case, none-not-some}
+use Rattle.basics.proofs.Laws.{from-none, from-suc, keep-nil, keep-true, keep-false, keep-same-from, total-nil, total-cons, member-head, member-tail}
 use Rattle.packed.specs.Graph.{nodes}
 use Rattle.rules.specs.Task.{Task}
 use Rattle.rules.specs.Marks.{Candidate, head, nextFrom}

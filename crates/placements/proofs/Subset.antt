@@ -9,9 +9,9 @@ use mathlib.Core.Path.{_≡_, refl, sym, _∙_}
 use native.Mathlib.Omega.{arith}
 use lib.Dec.{eqb}
 use borrow.Author.Tests.{eqb-true, eq-eqb}
-use Rattle.lists.specs.Lists.{count}
-use Rattle.lists.proofs.Tests.{case, option-case, never, and-left, and-right}
-use Rattle.lists.proofs.Laws.{count-nil, count-cons}
+use Rattle.basics.specs.Lists.{count}
+use Rattle.basics.proofs.Tests.{case, option-case, never, and-left, and-right}
+use Rattle.basics.proofs.Laws.{count-nil, count-cons}
 use Rattle.rules.specs.Acceptable.{removed, isSubset}
 use Rattle.rules.proofs.Matching.{same, removed-nil, removed-here, removed-nowhere, removed-further, subset-nil, subset-none, subset-some}
 

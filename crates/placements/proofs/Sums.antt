@@ -8,10 +8,10 @@ use mathlib.Core.Path.{_≡_, sym, _∙_}
 use native.Mathlib.Omega.{arith}
 use lib.Dec.{eqb}
 use borrow.Author.Tests.{eqb-true, eqb-false, eq-eqb, ne-eqb}
-use Rattle.lists.specs.Lists.{from, count, total}
-use Rattle.lists.proofs.Tests.{case, never}
-use Rattle.lists.proofs.Laws.{from-none, count-nil, count-from-more, total-nil, total-add, total-from-more}
-use Rattle.lists.proofs.Distinct.{total-one}
+use Rattle.basics.specs.Lists.{from, count, total}
+use Rattle.basics.proofs.Tests.{case, never}
+use Rattle.basics.proofs.Laws.{from-none, count-nil, count-from-more, total-nil, total-add, total-from-more}
+use Rattle.basics.proofs.Distinct.{total-one}
 
 abbrev pub sum : ℕ → (ℕ → ℕ) → ℕ
 sum n f = total f (from 0 n)

@@ -7,11 +7,11 @@ use mathlib.Core.Path.{_≡_, refl, sym, _∙_, ap}
 use native.Mathlib.Omega.{arith}
 use lib.ListN.{length, getD, length-map}
 use borrow.Author.Tests.{eqb-true, eq-eqb, leb-true, le-leb}
-use Rattle.lists.specs.Lists.{Distinct, from, member}
-use Rattle.lists.proofs.Tests.{and-intro, and-left, and-right, never, false-by}
-use Rattle.lists.proofs.Laws.{from-none, from-suc, from-length, from-at, member-nil, member-head, member-tail, member-cases, member-from, map-at}
-use Rattle.lists.proofs.Distinct.{distinct-all}
-use Rattle.lists.proofs.Place.{place-at}
+use Rattle.basics.specs.Lists.{Distinct, from, member}
+use Rattle.basics.proofs.Tests.{and-intro, and-left, and-right, never, false-by}
+use Rattle.basics.proofs.Laws.{from-none, from-suc, from-length, from-at, member-nil, member-head, member-tail, member-cases, member-from, map-at}
+use Rattle.basics.proofs.Distinct.{distinct-all}
+use Rattle.basics.proofs.Place.{place-at}
 use Rattle.packed.specs.Graph.{nodes}
 use Rattle.rules.specs.Task.{agree}
 use Rattle.rules.specs.Placement.{edgesOf}

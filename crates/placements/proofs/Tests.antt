@@ -8,9 +8,9 @@ use mathlib.Core.Path.{_≡_, refl, sym, _∙_, ap}
 use native.Mathlib.Omega.{arith}
 use lib.Dec.{eqb, leb}
 use borrow.Author.Tests.{eqb-true, eqb-false, leb-true, le-leb, eq-eqb}
-use Rattle.lists.specs.Lists.{from}
-use Rattle.lists.proofs.Tests.{case, never, and-intro, and-left, and-right, eqb-swap}
-use Rattle.lists.proofs.Laws.{from-none, from-suc, count-nil, count-cons}
+use Rattle.basics.specs.Lists.{from}
+use Rattle.basics.proofs.Tests.{case, never, and-intro, and-left, and-right, eqb-swap}
+use Rattle.basics.proofs.Laws.{from-none, from-suc, count-nil, count-cons}
 use Rattle.packed.specs.Graph.{Edge, Graph, nodes}
 use Rattle.graph.specs.Walk.{joins, leads}
 use Rattle.graph.specs.Within.{Within}

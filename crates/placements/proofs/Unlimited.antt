@@ -3,7 +3,7 @@ use Prim.Native.Nat.{ℕ, zero, suc}
 use mathlib.Core.List.{List, [], _∷_}
 use mathlib.Core.Option.{Option, none, some}
 use mathlib.Core.Path.{_≡_, refl, sym, _∙_, ap, fun-ext}
-use Rattle.lists.specs.Lists.{from, keep, total}
+use Rattle.basics.specs.Lists.{from, keep, total}
 use Rattle.packed.specs.Graph.{nodes}
 use Rattle.rules.specs.Task.{Task, Pairs}
 use Rattle.rules.specs.Marks.{OpenList, Candidate, candidate, nextFrom}

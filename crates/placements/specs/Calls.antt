@@ -3,7 +3,7 @@ use Prim.Native.Nat.{ℕ, zero, suc, _+_}
 use mathlib.Core.Bool.{Bool, false, cond}
 use mathlib.Core.List.{List, [], _∷_, _++_}
 use mathlib.Core.Option.{Option, none, some}
-use Rattle.packed.specs.Settings.{Settings}
+use Rattle.settings.specs.Settings.{Settings}
 use Rattle.rules.specs.Task.{Task}
 use Rattle.rules.specs.Search.{Top, Outer, Inner, Unwind, Record, accepts, step, Answer, Found, None, Limit, Paused, Went, run, continue}
 

@@ -6,10 +6,10 @@ use mathlib.Core.Option.{some}
 use mathlib.Core.Path.{_≡_}
 use lib.Dec.{eqb, ltb}
 use lib.ListN.{length, getD}
-use Rattle.lists.specs.Lists.{from, count, total, place}
+use Rattle.basics.specs.Lists.{from, count, total, place}
 use Rattle.packed.specs.Graph.{Edge, Graph, nodes}
 use Rattle.packed.specs.Refusals.{graph, reading}
-use Rattle.packed.specs.Settings.{Settings, settingsOf, badSettings}
+use Rattle.settings.specs.Settings.{Settings, settingsOf, badSettings}
 use Rattle.graph.specs.Within.{Within}
 use Rattle.order.specs.Order.{nodeOrder}
 use Rattle.rules.specs.Task.{Task, taskOf, graphsAgree, countsAgree, exchanged, partner}

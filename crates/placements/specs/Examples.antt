@@ -3,7 +3,7 @@ use mathlib.Core.Bool.{false}
 use mathlib.Core.Option.{none, some}
 use mathlib.Core.Path.{_≡_, refl}
 use lib.ListN.{length, replicate}
-use Rattle.lists.specs.Lists.{from, any, count, keep, total, member, place}
+use Rattle.basics.specs.Lists.{from, any, count, keep, total, member, place}
 use Rattle.graph.specs.Walk.{leads, entries}
 use Rattle.order.specs.Renumber.{renumbered}
 use Rattle.rules.specs.Task.{Task, taskOf, partner}

@@ -8,11 +8,11 @@ use lib.Dec.{eqb}
 use lib.ListN.{length, getD, drop, replicate, length-append, length-drop, length-replicate}
 use lib.Seq.{getD-at, getD-append-add, drop-append-seam}
 use borrow.Author.Tests.{eqb-true, eq-eqb}
-use Rattle.lists.specs.Lists.{member}
-use Rattle.lists.proofs.Tests.{case, and-intro, never}
-use Rattle.lists.proofs.Laws.{member-nil, member-head, member-tail, member-cases, getD-zeros}
+use Rattle.basics.specs.Lists.{member}
+use Rattle.basics.proofs.Tests.{case, and-intro, never}
+use Rattle.basics.proofs.Laws.{member-nil, member-head, member-tail, member-cases, getD-zeros}
 use Rattle.packed.specs.Graph.{Graph}
-use Rattle.packed.specs.Settings.{Settings}
+use Rattle.settings.specs.Settings.{Settings}
 use Rattle.order.specs.Order.{nodeOrder}
 use Rattle.order.specs.Paper.{written}
 use Rattle.rules.specs.Task.{Task, exchange}

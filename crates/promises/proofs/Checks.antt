@@ -4,19 +4,19 @@ use mathlib.Core.Bool.{Bool, true, cond}
 use mathlib.Core.List.{List, [], _∷_}
 use mathlib.Core.Logic.{_↔_, inl, inr, ⊎-elim}
 use mathlib.Core.Option.{Option, none, some}
-use mathlib.Core.Path.{_≡_, refl, sym, _∙_}
+use mathlib.Core.Path.{_≡_, refl, sym}
 use native.Mathlib.Omega.{arith}
 use lib.Dec.{eqb}
 use lib.ListN.{getD}
 use borrow.Author.Tests.{eqb-true}
-use Rattle.lists.specs.Lists.{count}
-use Rattle.lists.proofs.Tests.{case, none-not-some}
-use Rattle.lists.proofs.Laws.{count-nil, count-cons}
+use Rattle.basics.specs.Lists.{count}
+use Rattle.basics.proofs.Tests.{case, none-not-some}
+use Rattle.basics.proofs.Laws.{count-nil, count-cons}
 use Rattle.packed.specs.Packed.{nodeCount, graphOf}
 use Rattle.packed.specs.Refusals.{Refused, first}
-use Rattle.packed.specs.Settings.{settingsOf}
+use Rattle.settings.specs.Settings.{settingsOf}
 use Rattle.packed.proofs.Accepted.{nodes-of-graph}
-use Rattle.rules.specs.Calls.{CheckSays, yes, no, rejected, checkLines, Proposes, Judged, CheckTells}
+use Rattle.rules.specs.Calls.{yes, no, rejected, checkLines, Proposes, Judged, CheckTells}
 use Rattle.placements.specs.Claims.{Each}
 use Rattle.placements.proofs.Tests.{all-elim}
 use Rattle.promises.specs.Sessions.{Map, image, shows}
@@ -41,12 +41,6 @@ judged-yes (some r) P = (λ e. yes-rejected r e, λ p. none-not-some (sym (p .0)
 judged-no : (o : Option Refused) (P : Type 0) → Judged o P no ↔ ((o ≡ none) × (P → ⊥))
 judged-no none P = (⊎-elim (λ p. yes-no (sym (p .0))) (λ q. (refl, q .1)), λ p. inr (refl, p .1))
 judged-no (some r) P = (λ e. no-rejected r e, λ p. none-not-some (sym (p .0)))
-
-pub judged-once : (o : Option Refused) (P : Type 0) (a b : CheckSays) → Judged o P a → Judged o P b → a ≡ b
-judged-once none P a b j k =
-    ⊎-elim (λ p. ⊎-elim (λ q. p .0 ∙ sym (q .0)) (λ q. absurd (q .1 (p .1))) k)
-    (λ p. ⊎-elim (λ q. absurd (p .1 (q .1))) (λ q. p .0 ∙ sym (q .0)) k) j
-judged-once (some r) P a b j k = j ∙ sym k
 
 module _ {A : Type 0} (P : A → Type 0) (p : A → Bool) where
   -- where one passes, there is one

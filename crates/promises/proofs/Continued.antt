@@ -8,13 +8,13 @@ use mathlib.Core.Path.{_≡_, refl, sym, _∙_, ap}
 use native.Mathlib.Omega.{arith}
 use lib.ListN.{length, length-map}
 use borrow.Author.Tests.{le-ltb, ltb-false, not-false}
-use Rattle.lists.specs.Lists.{from}
-use Rattle.lists.proofs.Laws.{from-length}
-use Rattle.lists.proofs.Tests.{none-not-some}
+use Rattle.basics.specs.Lists.{from}
+use Rattle.basics.proofs.Laws.{from-length}
+use Rattle.basics.proofs.Tests.{none-not-some}
 use Rattle.packed.specs.Graph.{nodes}
 use Rattle.packed.specs.Packed.{nodeCount, graphOf}
 use Rattle.packed.specs.Refusals.{Refused, Line, first}
-use Rattle.packed.specs.Settings.{settingsOf}
+use Rattle.settings.specs.Settings.{settingsOf}
 use Rattle.packed.proofs.First.{first-behind, none-of-nil, none-of-cons, none-for-cons, none-of-both}
 use Rattle.packed.proofs.Accepted.{nodes-of-graph}
 use Rattle.order.specs.Paper.{written}

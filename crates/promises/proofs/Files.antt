@@ -8,7 +8,7 @@ use native.Mathlib.Omega.{arith}
 use borrow.Author.Tests.{eqb-true, not-false, eq-eqb}
 use Rattle.packed.specs.Packed.{kind, graphOf}
 use Rattle.packed.specs.Refusals.{Refused, first, fileLines, reading, graph}
-use Rattle.packed.specs.Settings.{badSettings, settingsLines}
+use Rattle.settings.specs.Settings.{badSettings, settingsLines}
 use Rattle.packed.proofs.First.{first-behind, none-of-nil, none-of-cons, none-for-cons, none-of-both}
 use Rattle.packed.proofs.Accepted.{accepted, Accepted, graphs-of-one-kind}
 use Rattle.rules.specs.Handed.{Handed, handed}

@@ -7,10 +7,10 @@ use mathlib.Core.Path.{_≡_, sym, _∙_, ap, fun-ext}
 use native.Mathlib.Omega.{arith}
 use lib.Dec.{ltb}
 use borrow.Author.Tests.{ltb-true, lt-ltb}
-use Rattle.lists.proofs.Tests.{by-iff}
+use Rattle.basics.proofs.Tests.{by-iff}
 use Rattle.packed.specs.Graph.{Graph}
 use Rattle.packed.specs.Packed.{graphOf}
-use Rattle.packed.specs.Settings.{Settings, settingsOf}
+use Rattle.settings.specs.Settings.{Settings, settingsOf}
 use Rattle.rules.specs.Task.{Task, taskOf}
 use Rattle.rules.specs.Search.{Answer, None, Limit, mapOf, mapOfIds}
 use Rattle.rules.specs.Handed.{Handed}

@@ -6,11 +6,11 @@ use mathlib.Core.Option.{Option, none, some}
 use mathlib.Core.Path.{_≡_, refl, sym, _∙_, ap}
 use native.Mathlib.Omega.{arith}
 use lib.Dec.{eqb}
-use Rattle.lists.proofs.Tests.{false-by, none-not-some}
-use Rattle.lists.proofs.Laws.{map-append, count-map, count-same}
+use Rattle.basics.proofs.Tests.{false-by, none-not-some}
+use Rattle.basics.proofs.Laws.{map-append, count-map, count-same}
 use Rattle.packed.specs.Graph.{nodes}
 use Rattle.packed.specs.Packed.{nodeCount, graphOf}
-use Rattle.packed.specs.Settings.{settingsOf}
+use Rattle.settings.specs.Settings.{settingsOf}
 use Rattle.packed.proofs.Accepted.{nodes-of-graph}
 use Rattle.rules.specs.Task.{Task, taskOf, countsAgree}
 use Rattle.rules.specs.Search.{Answer, None, Limit, started}

@@ -5,10 +5,10 @@ use mathlib.Core.List.{List, map}
 use mathlib.Core.Path.{_≡_, sym, _∙_, ap}
 use native.Mathlib.Omega.{arith}
 use lib.ListN.{length}
-use Rattle.lists.proofs.Tests.{case, and-right}
+use Rattle.basics.proofs.Tests.{case, and-right}
 use Rattle.packed.specs.Graph.{Graph, nodes}
 use Rattle.packed.specs.Packed.{nodeCount, graphOf}
-use Rattle.packed.specs.Settings.{Settings, settingsOf}
+use Rattle.settings.specs.Settings.{Settings, settingsOf}
 use Rattle.packed.proofs.Accepted.{nodes-of-graph}
 use Rattle.order.specs.Order.{nodeOrder}
 use Rattle.order.specs.Paper.{written}

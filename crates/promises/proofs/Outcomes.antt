@@ -1,54 +1,20 @@
 -- No second outcome: the paper's values tell the code's cases apart, and Check's yes and no shut each other out.
 use Prim.Native.Nat.{ℕ}
-use mathlib.Core.List.{List, [], _∷_}
-use mathlib.Core.Path.{_≡_, refl, sym, _∙_, ap}
+use mathlib.Core.List.{List}
+use mathlib.Core.Path.{_≡_, sym, _∙_, ap}
 use native.Mathlib.Omega.{arith}
-use lib.ListN.{getD}
 use Rattle.packed.specs.Refusals.{first}
 use Rattle.packed.specs.Paper.{numberOf, refusedBy, readPaper}
 use Rattle.packed.specs.declared.Refusal.{Refusal}
-use Rattle.packed.specs.declared.Refusal.the-variants.{TooShort, TooManyNodes, TooManyEdges, WrongLength, PaddingBit, UnknownNode, KindsDiffer, BadSettings, NoAcceptedPath, BufferTooShort, WrongMapLength}
 use Rattle.packed.specs.declared.ReadAnswer.{ReadAnswer}
 use Rattle.packed.specs.declared.ReadAnswer.the-variants as read
+use Rattle.packed.proofs.Numbered.{bearing, bears}
 use Rattle.order.specs.Paper.{orderPaper}
 use Rattle.order.specs.declared.OrderAnswer.{OrderAnswer}
 use Rattle.order.specs.declared.OrderAnswer.the-variants as order
 use Rattle.rules.specs.Calls.{checkLines, Proposes}
+use Rattle.rules.proofs.Judged.{judged-once}
 use Rattle.promises.specs.Promises.{OneOutcome}
-use Rattle.promises.proofs.Checks.{judged-once}
-
--- the refusal that bears a number
-pub bearing : ℕ → Refusal
-bearing n =
-    getD (
-    TooShort
-    ∷ TooShort
-    ∷ TooManyNodes
-    ∷ TooManyEdges
-    ∷ WrongLength
-    ∷ PaddingBit
-    ∷ UnknownNode
-    ∷ KindsDiffer
-    ∷ BadSettings
-    ∷ NoAcceptedPath
-    ∷ BufferTooShort
-    ∷ WrongMapLength
-    ∷ []
-    ) n TooShort
-
-pub bears : (r : Refusal) → bearing (numberOf r) ≡ r
-unfolding bearing
-bears TooShort = refl
-bears TooManyNodes = refl
-bears TooManyEdges = refl
-bears WrongLength = refl
-bears PaddingBit = refl
-bears UnknownNode = refl
-bears KindsDiffer = refl
-bears BadSettings = refl
-bears NoAcceptedPath = refl
-bears BufferTooShort = refl
-bears WrongMapLength = refl
 
 refusals-apart : (r q : Refusal) → numberOf r ≡ numberOf q → r ≡ q
 refusals-apart r q e = sym (bears r) ∙ ap bearing e ∙ bears q

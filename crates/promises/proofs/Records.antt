@@ -7,10 +7,10 @@ use mathlib.Core.Path.{_≡_, sym, _∙_, ap, subst}
 use native.Mathlib.Omega.{arith}
 use lib.Dec.{ltb}
 use lib.ListN.{length}
-use Rattle.lists.proofs.Tests.{and-left, and-right}
+use Rattle.basics.proofs.Tests.{and-left, and-right}
 use Rattle.packed.specs.Packed.{nodeCount, graphOf}
 use Rattle.packed.specs.Refusals.{Refused, first}
-use Rattle.packed.specs.Settings.{settingsOf}
+use Rattle.settings.specs.Settings.{settingsOf}
 use Rattle.packed.proofs.First.{first-behind}
 use Rattle.rules.specs.Task.{Task}
 use Rattle.rules.specs.Search.{Record, started, acceptedRecord}

@@ -8,7 +8,7 @@ use mathlib.Core.Path.{_≡_, refl, sym, _∙_, ap}
 use native.Mathlib.Omega.{arith}
 use Rattle.packed.specs.Packed.{nodeCount, graphOf}
 use Rattle.packed.specs.Refusals.{first}
-use Rattle.packed.specs.Settings.{settingsOf}
+use Rattle.settings.specs.Settings.{settingsOf}
 use Rattle.order.specs.Paper.{written}
 use Rattle.rules.specs.Search.{Answer, Found, None, Limit, Paused, Record, Went, continue, acceptedRecord}
 use Rattle.rules.specs.Handed.{Handed, handed}

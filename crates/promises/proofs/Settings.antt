@@ -7,9 +7,9 @@ use mathlib.Core.Path.{_≡_, refl}
 use lib.Dec.{eqb}
 use borrow.Author.Tests.{not-true}
 use Rattle.placements.specs.Calls.{withoutLimit}
-use Rattle.lists.proofs.Tests.{and-left, and-right}
+use Rattle.basics.proofs.Tests.{and-left, and-right}
 use Rattle.bits.specs.Bits.{field}
-use Rattle.packed.specs.Settings.{Settings, ordering, isSet, limited, limitField, settingsOf, badSettings}
+use Rattle.settings.specs.Settings.{Settings, ordering, isSet, limited, limitField, settingsOf, badSettings}
 
 bytes : Bool → Bool → Bool → Bool → Bool → List ℕ
 bytes greater vf2pp induced nodeLabels edgeLabels =

@@ -5,11 +5,11 @@ use mathlib.Core.List.{List, map}
 use mathlib.Core.Path.{_≡_, refl, sym, _∙_, ap, subst}
 use Rattle.packed.specs.Graph.{Graph, nodes}
 use Rattle.packed.specs.Packed.{graphOf}
-use Rattle.packed.specs.Settings.{settingsOf, settingsLines}
+use Rattle.settings.specs.Settings.{settingsOf, settingsLines}
 use Rattle.packed.proofs.First.{none-of-cons}
 use Rattle.order.specs.Order.{nodeOrder}
 use Rattle.order.proofs.Once.{order-member, order-distinct}
-use Rattle.lists.proofs.Distinct.{distinct-below}
+use Rattle.basics.proofs.Distinct.{distinct-below}
 use Rattle.rules.specs.Task.{exchange}
 use Rattle.rules.specs.Search.{started}
 use Rattle.rules.specs.Handed.{handed}

@@ -3,11 +3,11 @@ use Prim.Native.Nat.{ℕ}
 use mathlib.Core.List.{List, [], _∷_}
 use mathlib.Core.Option.{some}
 use mathlib.Core.Path.{_≡_, refl}
-use Rattle.lists.specs.Lists.{from, any, count, keep, total, member, place}
+use Rattle.basics.specs.Lists.{from, any, count, keep, total, member, place}
 use Rattle.bits.specs.Bits.{field}
 use Rattle.packed.specs.Packed.{graphOf}
 use Rattle.packed.specs.Refusals.{first, fileLines}
-use Rattle.packed.specs.Settings.{settingsOf, settingsLines}
+use Rattle.settings.specs.Settings.{settingsOf, settingsLines}
 use Rattle.graph.specs.Walk.{leads, entries}
 use Rattle.order.specs.Renumber.{renumbered}
 use Rattle.rules.specs.Task.{taskOf, partner}

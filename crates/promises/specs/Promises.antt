@@ -8,10 +8,10 @@ use mathlib.Core.Option.{Option, none, some}
 use mathlib.Core.Path.{_≡_}
 use lib.Dec.{eqb, ltb}
 use lib.ListN.{length, getD, drop}
-use Rattle.lists.specs.Lists.{count}
+use Rattle.basics.specs.Lists.{count}
 use Rattle.packed.specs.Packed.{nodeCount, graphOf}
 use Rattle.packed.specs.Refusals.{Refused, first, fileLines, reading}
-use Rattle.packed.specs.Settings.{settingsOf, settingsLines}
+use Rattle.settings.specs.Settings.{settingsOf, settingsLines}
 use Rattle.packed.specs.Paper.{numberOf, summary, readPaper}
 use Rattle.packed.specs.declared.Refusal.{Refusal}
 use Rattle.packed.specs.declared.ReadAnswer.{ReadAnswer}

@@ -8,7 +8,7 @@ use mathlib.Core.Path.{_≡_}
 use lib.Dec.{eqb, ltb}
 use lib.ListN.{length}
 use borrow.Author.Tests.{eq-eqb, ne-eqb}
-use Rattle.packed.specs.Settings.{ordering, spare, limited, limitField, settingsOf}
+use Rattle.settings.specs.Settings.{ordering, spare, limited, limitField, settingsOf}
 use Rattle.settings.specs.Paper.{settingsReading}
 
 module _ (s : List ℕ) where

@@ -1,1 +1,4 @@
+pub mod Settings
+pub mod Table
+pub mod Examples
 pub mod Paper

@@ -4,7 +4,7 @@ use mathlib.Core.Bool.{cond}
 use mathlib.Core.List.{List}
 use mathlib.Core.Option.{Option, none, some}
 use lib.Dec.{eqb}
-use Rattle.packed.specs.Settings.{Settings, settingsOf, badSettings}
+use Rattle.settings.specs.Settings.{Settings, settingsOf, badSettings}
 use Rattle.settings.specs.declared.Chosen.{Chosen}
 use Rattle.settings.specs.declared.Ordering.{Ordering}
 use Rattle.settings.specs.declared.Ordering.the-variants.{Equal, Greater, Unknown}

@@ -8,9 +8,9 @@ use lib.Dec.{leb, ltb}
 use lib.ListN.{length, length-append}
 use borrow.Author.Tests.{le-leb, lt-leb, ltb-true, ltb-false}
 use Rattle.io.specs.Digits.{digits, glyph, Fewest}
-use Rattle.lists.specs.Lists.{from, count}
-use Rattle.lists.proofs.Laws.{from-none, from-suc, count-nil, count-cons}
-use Rattle.lists.proofs.Tests.{case}
+use Rattle.basics.specs.Lists.{from, count}
+use Rattle.basics.proofs.Laws.{from-none, from-suc, count-nil, count-cons}
+use Rattle.basics.proofs.Tests.{case}
 use Rattle.text.specs.Text.{places, decimal}
 
 pub power-at-most : (i k : ℕ) → i ≤ k → 10 ^ i ≤ 10 ^ k

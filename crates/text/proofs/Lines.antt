@@ -3,8 +3,8 @@ use Prim.Native.Nat.{ℕ, zero, suc, _+_, _*_, _/_, _^_, _≤_, _<_}
 use mathlib.Core.List.{List, [], _∷_, _++_, flatMap}
 use native.Mathlib.Omega.{arith}
 use lib.ListN.{length, getD, length-append}
-use Rattle.lists.specs.Lists.{from}
-use Rattle.lists.proofs.Laws.{from-none, from-suc}
+use Rattle.basics.specs.Lists.{from}
+use Rattle.basics.proofs.Laws.{from-none, from-suc}
 use Rattle.text.specs.Text.{decimal, field, pair, pairAt, mapText, lastLine}
 use Rattle.text.proofs.Decimal.{decimal-most}
 

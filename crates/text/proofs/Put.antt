@@ -8,7 +8,7 @@ use lib.Dec.{ltb}
 use lib.ListN.{length, take, drop, set, length-append}
 use lib.Seq.{paste, paste-zero, length-paste, take-paste, drop-paste, append-snoc, take-length, take-append-le, take-append-add, drop-drop, set-out, set-split}
 use borrow.Author.Tests.{ltb-true, ltb-false}
-use Rattle.lists.proofs.Tests.{case}
+use Rattle.basics.proofs.Tests.{case}
 use Rattle.text.specs.Text.{put, Puts, PutsWhole}
 
 pub put-length : (text : List ℕ) (at : ℕ) (bytes : List ℕ) → at ≤ length text → length (put text at bytes) ≡ length text

@@ -5,7 +5,7 @@ use mathlib.Core.Path.{_≡_}
 use native.Mathlib.Omega.{arith}
 use lib.Dec.{leb}
 use borrow.Author.Tests.{leb-true, le-leb}
-use Rattle.lists.proofs.Tests.{case}
+use Rattle.basics.proofs.Tests.{case}
 use Rattle.text.specs.Text.{valueOf}
 
 within : (a b c : ℕ) → a ≤ c → c ≤ b → (leb a c && leb c b) ≡ true

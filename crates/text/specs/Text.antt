@@ -7,7 +7,7 @@ use lib.Dec.{leb, ltb}
 use lib.ListN.{length, getD, take, drop}
 use lib.Seq.{paste}
 use Rattle.io.specs.Digits.{digits}
-use Rattle.lists.specs.Lists.{from, any, count}
+use Rattle.basics.specs.Lists.{from, any, count}
 
 -- the buffer with the bytes from a place on, as many as there is room for
 abbrev pub put : List ℕ → ℕ → List ℕ → List ℕ

@@ -1,8 +1,8 @@
 -- `list::list` is safe and ends: what is examined and accepted has the counts of both files.
 use mathlib.Core.Path.{sym, _∙_, ap}
+use Rattle.inputs.specs.Inputs.{examinePaper}
+use Rattle.inputs.proofs.Answered.{examined-accepted}
 use borrow.Author.Needs.{needs}
-use Rattle.tasks.specs.Tasks.{examinePaper}
-use Rattle.tasks.proofs.Answered.{examined-accepted}
 use Rattle.list.proofs.list.Statement.{statement}
 use Rattle.list.proofs.list.Tie as tie
 
@@ -24,13 +24,17 @@ list-nothing-requires c κs = search needs
 enum-known-directed : tie.Need-enum-known-directed
 enum-known-directed c = search needs
 
+rules-of-requires : tie.Need-rules-of-requires
+rules-of-requires c κs = search needs
+
 list-accepted-requires : tie.Need-list-accepted-requires
 list-accepted-requires c κs =
-    let known = c .before in
+    let known = c .before .before in
     let a = known .before .before .before .before .before .before .args in
-    let accepted = examined-accepted (a .file0 .now) (a .file1 .now) (a .settings .now) _ _ _ _ _ _
+    let accepted =
+    examined-accepted (a .file0 .now) (a .file1 .now) (a .settings .now) _ _ _ _ _ _
     (sym (sym (ap examinePaper (known .directed .given .1)) ∙ known .before .before .examine .ensures)) in
-    (accepted .first-counts, accepted .second-counts)
+    rw (c .rules-of .ensures) (accepted .first-counts, accepted .second-counts)
 
 returns : tie.Need-returns
 returns c = search needs
@@ -48,6 +52,7 @@ list-spec =
     number-of-requires
     list-nothing-requires
     enum-known-directed
+    rules-of-requires
     list-accepted-requires
     returns
     returns-2)

@@ -5,8 +5,8 @@ use mathlib.Core.Bool.{Bool, false, _||_}
 use mathlib.Core.Path.{_≡_, sym, _∙_}
 use mathlib.Core.List.{List}
 use native.Mathlib.Omega.{arith}
-use Rattle.lists.specs.Lists.{from, any}
-use Rattle.lists.proofs.Laws.{from-left, from-end, any-nil, any-cons}
+use Rattle.basics.specs.Lists.{from, any}
+use Rattle.basics.proofs.Laws.{from-left, from-end, any-nil, any-cons}
 use Rattle.bits.specs.Bits.{field}
 use Rattle.packed.specs.Packed.{edgeFrom, edgeOffset}
 use Rattle.packed.specs.Refusals.{namesUnknown}

@@ -1,6 +1,6 @@
 -- `packed::is_unknown` meets its contract: an unknown source settles the answer, and with a known one the target decides.
 use borrow.Author.Tests.{lt-ltb, le-ltb}
-use Rattle.lists.proofs.Tests.{leb-not-ltb}
+use Rattle.basics.proofs.Tests.{leb-not-ltb}
 use Rattle.packed.proofs.is_unknown.Statement.{statement}
 use Rattle.packed.proofs.is_unknown.Tie as tie
 

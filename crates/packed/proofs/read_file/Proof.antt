@@ -9,8 +9,8 @@ use lib.ListN.{length, length-map}
 use borrow.Author.Count.{below-none, below-more}
 use borrow.Author.Needs.{needs}
 use borrow.Author.Tests.{lt-ltb, le-ltb, eq-eqb, ne-eqb}
-use Rattle.lists.specs.Lists.{from, any}
-use Rattle.lists.proofs.Laws.{from-length}
+use Rattle.basics.specs.Lists.{from, any}
+use Rattle.basics.proofs.Laws.{from-length}
 use Rattle.bits.specs.Bits.{field}
 use Rattle.bits.proofs.Laws.{field-zero}
 use Rattle.packed.specs.Packed.{nodeCount, edgeCount, edgeAt, edgeFrom, edgeOffset, usedBits, labelAt, graphOf}

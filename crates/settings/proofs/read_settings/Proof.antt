@@ -7,8 +7,8 @@ use native.Mathlib.Omega.{arith}
 use lib.Dec.{eqb, ltb}
 use borrow.Author.Needs.{needs}
 use borrow.Author.Tests.{eqb-true, eqb-false, lt-ltb}
-use Rattle.lists.proofs.Tests.{case}
-use Rattle.packed.specs.Settings.{ordering}
+use Rattle.basics.proofs.Tests.{case}
+use Rattle.settings.specs.Settings.{ordering}
 use Rattle.settings.specs.Paper.{orderingIn}
 use Rattle.settings.specs.declared.Ordering.{Ordering}
 use Rattle.settings.specs.declared.Ordering.the-variants.{Equal, Greater, Unknown}

@@ -8,7 +8,7 @@ use mathlib.Core.Path.{_≡_, sym, _∙_, ap}
 use lib.Dec.{eqb, ltb}
 use borrow.Author.Needs.{needs}
 use borrow.Author.Tests.{lt-ltb, le-ltb}
-use Rattle.packed.specs.Settings.{ordering, isSet, spare, limited, limitField, settingsOf}
+use Rattle.settings.specs.Settings.{ordering, isSet, spare, limited, limitField, settingsOf}
 use Rattle.settings.specs.Paper.{settingsIn}
 use Rattle.settings.specs.declared.Chosen.{Chosen}
 use Rattle.settings.proofs.Line.{spare-bit, limit-over, limit-unasked, all-passed}

@@ -8,9 +8,9 @@ use native.Mathlib.Omega.{arith}
 use lib.Dec.{ltb, eqb}
 use lib.ListN.{length, getD, set, drop, length-set, length-map}
 use borrow.Author.Tests.{ltb-true, ltb-false, eqb-true, eqb-false}
-use Rattle.lists.specs.Lists.{from}
-use Rattle.lists.proofs.Laws.{from-none, from-length, map-from-more, stored-behind}
-use Rattle.lists.proofs.Tests.{case}
+use Rattle.basics.specs.Lists.{from}
+use Rattle.basics.proofs.Laws.{from-none, from-length, map-from-more, stored-behind}
+use Rattle.basics.proofs.Tests.{case}
 use Rattle.text.specs.Text.{valueOf, Digits, byteAt, bytesOf}
 use Rattle.text.proofs.decode.Statement.{statement}
 use Rattle.text.proofs.decode.Tie as tie

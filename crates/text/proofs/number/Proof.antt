@@ -9,9 +9,9 @@ use native.Mathlib.Omega.{arith}
 use lib.Dec.{ltb, eqb}
 use lib.ListN.{getD}
 use borrow.Author.Tests.{ltb-true, lt-ltb, eqb-true, eqb-false}
-use Rattle.lists.specs.Lists.{from, any}
-use Rattle.lists.proofs.Decides.{Decides, decides-itself, decides-any, decides-false}
-use Rattle.lists.proofs.Tests.{case}
+use Rattle.basics.specs.Lists.{from, any}
+use Rattle.basics.proofs.Decides.{Decides, decides-itself, decides-any, decides-false}
+use Rattle.basics.proofs.Tests.{case}
 use Rattle.text.specs.Text.{valueOf, spelled, numberAt}
 use Rattle.text.proofs.Decimal.{power-at-most}
 use Rattle.text.proofs.number.Statement.{statement}

@@ -7,8 +7,8 @@ use native.Mathlib.Nat.{zero-add}
 use native.Mathlib.Omega.{arith}
 use lib.ListN.{length}
 use borrow.Author.Needs.{needs}
-use Rattle.lists.specs.Lists.{from}
-use Rattle.lists.proofs.Laws.{from-none, from-more}
+use Rattle.basics.specs.Lists.{from}
+use Rattle.basics.proofs.Laws.{from-none, from-more}
 use Rattle.text.specs.Text.{Puts, pairAt}
 use Rattle.text.proofs.Put.{puts-length, puts-none, puts-then, parts-none, parts-more}
 use Rattle.text.proofs.Lines.{map-text-most}

@@ -1,2 +1,0 @@
-pub mod Feasible
-pub mod Candidates

@@ -1,1 +1,0 @@
-// Laws: the tests over the arrays are the rules of the search.
