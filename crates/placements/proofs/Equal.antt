@@ -19,10 +19,10 @@ use Rattle.rules.proofs.Laws.{isSome}
 use Rattle.placements.proofs.Sums.{sum, sum-le, sum-same, sum-add, sum-zero, sum-one, sum-tight, Into, Apart, sum-into, sum-onto}
 
 -- over all pairs of nodes, and over all nodes with themselves
-abbrev pairs : Bool → ℕ → List Edge → ℕ
+abbrev pub pairs : Bool → ℕ → List Edge → ℕ
 pairs directed n es = sum n (λ x. sum n (λ y. count (joins directed x y) es))
 
-abbrev loops : Bool → ℕ → List Edge → ℕ
+abbrev pub loops : Bool → ℕ → List Edge → ℕ
 loops directed n es = sum n (λ x. count (joins directed x x) es)
 
 abbrev edgePairs : Bool → ℕ → Edge → ℕ
@@ -97,12 +97,12 @@ module _ (directed : Bool) (n : ℕ) where
       (λ x l. count-cons (joins directed x x) e es)
       ∙ sum-add n (λ x. cond (joins directed x x e) 1 0) (λ x. count (joins directed x x) es)
 
-directed-total : (n : ℕ) (es : List Edge) → Within n es → pairs true n es ≡ length es
+pub directed-total : (n : ℕ) (es : List Edge) → Within n es → pairs true n es ≡ length es
 directed-total n [] h = pairs-nil true n
 directed-total n (e ∷ es) h =
     omega (arith, pairs-cons true n e es, directed-edge n e (h .0 .0) (h .0 .1), directed-total n es (h .1))
 
-undirected-total : (n : ℕ) (es : List Edge) → Within n es → pairs false n es + loops false n es ≡ 2 * length es
+pub undirected-total : (n : ℕ) (es : List Edge) → Within n es → pairs false n es + loops false n es ≡ 2 * length es
 undirected-total n [] h = omega (arith, pairs-nil false n, loops-nil false n)
 undirected-total n (e ∷ es) h =
     omega (arith, pairs-cons false n e es, loops-cons false n e es, undirected-edge n e (h .0 .0) (h .0 .1), undirected-total n es (h .1))

@@ -72,7 +72,7 @@ module _ (s : Settings) (g₀ g₁ : Graph) (φ : ℕ → ℕ) (p : Placement s 
   sum₀ : (x y : ℕ) → sum 64 (λ l. labelledBetween g₀ l (φ x) (φ y)) ≡ between g₀ (φ x) (φ y)
   sum₀ x y = labels-sum 64 g₀ (φ x) (φ y) (files .accepted₀ .labels-below)
 
-  between-least : (x y : ℕ) → x < nodes g₁ → y < nodes g₁ → between g₁ x y ≤ between g₀ (φ x) (φ y)
+  pub between-least : (x y : ℕ) → x < nodes g₁ → y < nodes g₁ → between g₁ x y ≤ between g₀ (φ x) (φ y)
   between-least x y i j =
       case (s .edgeLabels)
       (λ c. rw (← sum₁ x y, ← sum₀ x y)

@@ -25,3 +25,4 @@ pub mod Called
 pub mod Listing
 pub mod Records
 pub mod Ids
+pub mod Greater

@@ -61,6 +61,11 @@ abbrev pub CountsChained : Type 0
 CountsChained =
     (s : Settings) (g₀ g₁ g₂ : Graph) → graphsAgree s g₀ g₁ ≡ true → graphsAgree s g₁ g₂ ≡ true → graphsAgree s g₀ g₂ ≡ true
 
+-- under Greater a placement implies that the counts agree: each node and each edge of the block has one of its own on the board
+abbrev pub CountsImplied : Type 0
+CountsImplied =
+    (s : Settings) (g₀ g₁ : Graph) (φ : ℕ → ℕ) → s .greater ≡ true → OfOneKind g₀ g₁ → Placement s g₀ g₁ φ → graphsAgree s g₀ g₁ ≡ true
+
 -- the node that φ sends to a
 unfoldable pub reverse : ℕ → (ℕ → ℕ) → ℕ → ℕ
 unfolding from place

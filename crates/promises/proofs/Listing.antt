@@ -24,6 +24,7 @@ use Rattle.placements.specs.Claims.{Each, LimitMost, BudgetsAlike, called, From
 use Rattle.placements.proofs.Renumbered.{renumbered-placements}
 use Rattle.placements.proofs.Accepted.{accepted-stays}
 use Rattle.placements.proofs.Bound.{steps-within}
+use Rattle.placements.proofs.Greater.{counts-implied}
 use Rattle.placements.proofs.Called.{calls-end}
 use Rattle.placements.proofs.Files.{settings-ensure}
 use Rattle.placements.proofs.Called.{Ends, ends-open, ends-none, ends-limit, calls-end}
@@ -179,4 +180,6 @@ the-listing =
     record {
       all-placements = λ f₀ f₁ s h budgets buffer b free agreed long. lists-all f₀ f₁ s h b agreed free budgets buffer long;
       no-map = λ f₀ f₁ s h budget buffer b differ long. no-first-map f₀ f₁ s h b differ budget buffer long;
+      counts-implied =
+          λ f₀ f₁ s h φ b greater p. counts-implied (settingsOf s) (graphOf f₀) (graphOf f₁) φ greater (of-one-kind f₀ f₁ s (begun-free f₀ f₁ s h b)) p;
     }

@@ -129,6 +129,9 @@ pub record TheListing : Type 0 where
   -- if the counts don't agree, there is no map: the first answer is None, and nothing changes
   pub no-map : (f₀ f₁ s : List ℕ) (h : Handed) (budget : ℕ) (buffer : List ℕ) → Begins f₀ f₁ s h → (CountsAgree f₀ f₁ s → ⊥)
       → LongEnough f₁ buffer → continueSays f₀ f₁ s h budget buffer ≡ went None 0 h buffer
+  -- under Greater they agree wherever there is a placement
+  pub counts-implied : (f₀ f₁ s : List ℕ) (h : Handed) (φ : ℕ → ℕ) → Begins f₀ f₁ s h → settingsOf s .greater ≡ true
+      → Places f₀ f₁ s φ → CountsAgree f₀ f₁ s
 
 -- 3. With a limit: the first maps of the listing without one, and Limit exactly where that accepts more pairs than the limit
 
