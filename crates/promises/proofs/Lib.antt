@@ -10,3 +10,4 @@ pub mod Limits
 pub mod Symmetries
 pub mod Checks
 pub mod Outcomes
+pub mod Endings

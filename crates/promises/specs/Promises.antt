@@ -19,7 +19,7 @@ use Rattle.order.specs.Order.{nodeOrder}
 use Rattle.order.specs.Paper.{orderSays, orderPaper}
 use Rattle.order.specs.declared.OrderAnswer.{OrderAnswer}
 use Rattle.rules.specs.Task.{Task, taskOf, graphsAgree, exchange}
-use Rattle.rules.specs.Search.{started, mapOfIds, Answer, Found, None, Limit}
+use Rattle.rules.specs.Search.{started, mapOfIds, Answer, Found, None, Limit, Paused}
 use Rattle.rules.specs.Handed.{Handed, handed}
 use Rattle.rules.specs.Calls.{StartSays, begun, startSays, ContinueSays, went, turnedAway, continueSays, CheckSays, yes, no, checkLines, CheckTells}
 use Rattle.rules.specs.Placement.{Placement}
@@ -245,3 +245,18 @@ pub record RecordsMeanSomething : Type 0 where
   pub passed-exactly : (f₀ f₁ s : List ℕ) (h₀ : Handed) → Begins f₀ f₁ s h₀ → CountsAgree f₀ f₁ s
       → (h : Handed) (budget : ℕ) (buffer : List ℕ) → length (h .path) ≡ 128 → LongEnough f₁ buffer
       → (refusalOf (continueSays f₀ f₁ s h budget buffer) ≡ none) ↔ ((steps : ℕ) × PassedAfter f₀ f₁ s h steps)
+
+-- 9. A call makes at most its budget of steps, and all of them where it pauses; after its end a search answers the same again
+
+pub record StepsAndEnd : Type 0 where
+  pub within-budget : (f₀ f₁ s : List ℕ) (h h′ : Handed) (budget steps : ℕ) (answer : Answer) (buffer buffer′ : List ℕ)
+      → continueSays f₀ f₁ s h budget buffer ≡ went answer steps h′ buffer′ → steps ≤ budget
+  pub paused-used : (f₀ f₁ s : List ℕ) (h h′ : Handed) (budget steps : ℕ) (buffer buffer′ : List ℕ)
+      → continueSays f₀ f₁ s h budget buffer ≡ went Paused steps h′ buffer′ → steps ≡ budget
+  -- None after None and Limit after Limit: no step is made, record and buffer are left
+  pub none-again : (f₀ f₁ s : List ℕ) (h h′ : Handed) (budget steps : ℕ) (buffer buffer′ : List ℕ)
+      → continueSays f₀ f₁ s h budget buffer ≡ went None steps h′ buffer′
+      → (more : ℕ) (next : List ℕ) → LongEnough f₁ next → continueSays f₀ f₁ s h′ more next ≡ went None 0 h′ next
+  pub limit-again : (f₀ f₁ s : List ℕ) (h h′ : Handed) (budget steps : ℕ) (buffer buffer′ : List ℕ)
+      → continueSays f₀ f₁ s h budget buffer ≡ went Limit steps h′ buffer′
+      → (more : ℕ) (next : List ℕ) → LongEnough f₁ next → continueSays f₀ f₁ s h′ more next ≡ went Limit 0 h′ next
