@@ -1,13 +1,12 @@
 -- Steps and the end, over bytes: what the rules' run says of its budget, and that a record at which it was stopped stops it again.
 use Prim.Native.Nat.{ℕ, _≤_}
 use mathlib.Core.List.{List}
-use mathlib.Core.Option.{some}
-use mathlib.Core.Path.{_≡_, sym, _∙_, ap, subst}
+use mathlib.Core.Path.{_≡_, sym, _∙_, ap}
 use native.Mathlib.Omega.{arith}
 use Rattle.basics.proofs.Tests.{and-right}
 use Rattle.packed.specs.Packed.{graphOf}
 use Rattle.settings.specs.Settings.{settingsOf}
-use Rattle.rules.specs.Search.{Answer, Found, None, Limit, Paused, Record, Went, continue, stops, acceptedRecord}
+use Rattle.rules.specs.Search.{Answer, Found, None, Limit, Paused, Went, continue, stops}
 use Rattle.rules.specs.Handed.{Handed, recordOf, handed, zeroBeyond}
 use Rattle.rules.specs.Calls.{went, wentOn, continueSays}
 use Rattle.rules.proofs.Runs.{run-stops, run-ended}
@@ -16,6 +15,7 @@ use Rattle.placements.proofs.Budgets.{budgets}
 use Rattle.promises.specs.Promises.{LongEnough, StepsAndEnd}
 use Rattle.promises.proofs.Continued.{t, Goes, went-goes, went-parts}
 use Rattle.promises.proofs.Sessions.{continue-handed}
+use Rattle.promises.proofs.Finished.{end-comes, listing-made}
 
 none-not-found : None ≡ Found → ⊥
 none-not-found e = let z : _≡_ {A = ℕ} 0 1 = cc in omega arith
@@ -67,4 +67,6 @@ steps-and-end =
       limit-again = λ f₀ f₁ s h h′ budget steps buffer buffer′ says more next long.
           again f₀ f₁ s h h′ budget steps Limit buffer buffer′ says limit-not-found limit-not-paused more next long
           ∙ ap (λ k. went Limit 0 k next) (parts f₀ f₁ s h h′ budget steps Limit buffer buffer′ says .2);
+      end-comes = λ f₀ f₁ s h budgets buffer b long one more. end-comes f₀ f₁ s h b buffer long budgets one more;
+      listing-made = listing-made;
     }

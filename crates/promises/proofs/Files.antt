@@ -18,7 +18,7 @@ use Rattle.placements.specs.Claims.{OfOneKind}
 use Rattle.placements.proofs.Files.{files-ensure}
 
 -- a file to which no line applies is read
-file-read : (file : ℕ) (f : List ℕ) → first (fileLines file f) ≡ none → reading file f ≡ graph (graphOf f)
+pub file-read : (file : ℕ) (f : List ℕ) → first (fileLines file f) ≡ none → reading file f ≡ graph (graphOf f)
 unfolding reading
 file-read file f e = rw e
 

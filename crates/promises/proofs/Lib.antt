@@ -10,4 +10,6 @@ pub mod Limits
 pub mod Symmetries
 pub mod Checks
 pub mod Outcomes
+pub mod Numbers
+pub mod Finished
 pub mod Endings

@@ -46,8 +46,6 @@ one-outcome =
     record {
       read = λ file f a b p q. reads-apart a b (p ∙ sym q);
       order = λ f plusPlus buffer a b x y p q. orders-apart a b x y (p ∙ sym q);
-      start = λ f₀ f₁ s a b p q. p ∙ sym q;
-      continue = λ f₀ f₁ s h budget buffer a b p q. p ∙ sym q;
       check = λ f₀ f₁ s map′ a b p q. judged-once (first (checkLines f₀ f₁ s map′)) (Proposes f₀ f₁ s map′) a b p q;
       refusals-apart = refusals-apart;
       reads-apart = reads-apart;

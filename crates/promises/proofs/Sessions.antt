@@ -47,7 +47,7 @@ module _ (f₀ f₁ s : List ℕ) where
   unfolding session
   session-nil h buffer = refl
 
-  session-cons : (b : ℕ) (bs : List ℕ) (h : Handed) (buffer : List ℕ)
+  pub session-cons : (b : ℕ) (bs : List ℕ) (h : Handed) (buffer : List ℕ)
       → session f₀ f₁ s (b ∷ bs) h buffer ≡ andThen (nodeCount f₁) (continueSays f₀ f₁ s h b buffer) (session f₀ f₁ s bs)
   unfolding session
   session-cons b bs h buffer = refl

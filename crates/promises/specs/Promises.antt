@@ -3,15 +3,17 @@
 use Prim.Native.Nat.{ℕ, suc, _+_, _*_, _≤_, _<_, min}
 use mathlib.Core.Bool.{Bool, true, false, cond}
 use mathlib.Core.List.{List, _++_, map}
-use mathlib.Core.Logic.{_↔_}
+use mathlib.Core.Logic.{_↔_, _⊎_}
 use mathlib.Core.Option.{Option, none, some}
 use mathlib.Core.Path.{_≡_}
 use lib.Dec.{eqb, ltb}
 use lib.ListN.{length, getD, drop}
 use Rattle.basics.specs.Lists.{count}
-use Rattle.packed.specs.Packed.{nodeCount, graphOf}
+use Rattle.packed.specs.Packed.{kind, nodeCount, graphOf}
 use Rattle.packed.specs.Refusals.{Refused, first, fileLines, reading}
 use Rattle.settings.specs.Settings.{settingsOf, settingsLines}
+use Rattle.settings.specs.Table.{NotSettings}
+use Rattle.packed.specs.Table.{Says}
 use Rattle.packed.specs.Paper.{numberOf, summary, readPaper}
 use Rattle.packed.specs.declared.Refusal.{Refusal}
 use Rattle.packed.specs.declared.ReadAnswer.{ReadAnswer}
@@ -20,8 +22,8 @@ use Rattle.order.specs.Paper.{orderSays, orderPaper}
 use Rattle.order.specs.declared.OrderAnswer.{OrderAnswer}
 use Rattle.rules.specs.Task.{Task, taskOf, graphsAgree, exchange}
 use Rattle.rules.specs.Search.{started, mapOfIds, Answer, Found, None, Limit, Paused}
-use Rattle.rules.specs.Handed.{Handed, handed}
-use Rattle.rules.specs.Calls.{StartSays, begun, startSays, ContinueSays, went, turnedAway, continueSays, CheckSays, yes, no, checkLines, CheckTells}
+use Rattle.rules.specs.Handed.{Handed, handed, acceptedHanded}
+use Rattle.rules.specs.Calls.{begun, refused, startSays, ContinueSays, went, turnedAway, continueSays, CheckSays, yes, no, rejected, checkLines, CheckTells}
 use Rattle.rules.specs.Placement.{Placement}
 use Rattle.placements.specs.Listed.{listed}
 use Rattle.placements.specs.Calls.{withoutLimit, unlimited, after, acceptedIn}
@@ -201,15 +203,12 @@ pub record CheckAgrees : Type 0 where
   pub no-listed : (f₀ f₁ s map′ : List ℕ) (l : ListingMade f₀ f₁ s) → first (checkLines f₀ f₁ s map′) ≡ none → CountsAgree f₀ f₁ s
       → CheckTells f₀ f₁ s map′ no ↔ (count (shows (nodeCount f₁) (λ v. getD map′ v 0)) (all-of f₀ f₁ s l .maps) ≡ 0)
 
--- 7. No second outcome satisfies what a call's contract says of it
+-- 7. No second outcome satisfies what a call's contract says of it (Start and Continue: `calls`, over the code's answers)
 
 pub record OneOutcome : Type 0 where
   pub read : (file : ℕ) (f : List ℕ) (a b : ReadAnswer) → readPaper a ≡ summary (reading file f) → readPaper b ≡ summary (reading file f) → a ≡ b
   pub order : (f : List ℕ) (plusPlus : Bool) (buffer : List ℕ) (a b : OrderAnswer) (x y : List ℕ)
       → orderPaper a x ≡ orderSays f plusPlus buffer → orderPaper b y ≡ orderSays f plusPlus buffer → (a ≡ b) × (x ≡ y)
-  pub start : (f₀ f₁ s : List ℕ) (a b : StartSays) → a ≡ startSays f₀ f₁ s → b ≡ startSays f₀ f₁ s → a ≡ b
-  pub continue : (f₀ f₁ s : List ℕ) (h : Handed) (budget : ℕ) (buffer : List ℕ) (a b : ContinueSays)
-      → a ≡ continueSays f₀ f₁ s h budget buffer → b ≡ continueSays f₀ f₁ s h budget buffer → a ≡ b
   pub check : (f₀ f₁ s map′ : List ℕ) (a b : CheckSays) → CheckTells f₀ f₁ s map′ a → CheckTells f₀ f₁ s map′ b → a ≡ b
   -- the paper's values tell the code's cases apart
   pub refusals-apart : (r q : Refusal) → numberOf r ≡ numberOf q → r ≡ q
@@ -260,3 +259,35 @@ pub record StepsAndEnd : Type 0 where
   pub limit-again : (f₀ f₁ s : List ℕ) (h h′ : Handed) (budget steps : ℕ) (buffer buffer′ : List ℕ)
       → continueSays f₀ f₁ s h budget buffer ≡ went Limit steps h′ buffer′
       → (more : ℕ) (next : List ℕ) → LongEnough f₁ next → continueSays f₀ f₁ s h′ more next ≡ went Limit 0 h′ next
+  -- from every start that isn't refused, with or without a limit, an end comes
+  pub end-comes : (f₀ f₁ s : List ℕ) (h : Handed) (budgets buffer : List ℕ) → Begins f₀ f₁ s h → LongEnough f₁ buffer
+      → AtLeastOne budgets → mostSteps f₀ f₁ < length budgets
+      → (session f₀ f₁ s budgets h buffer .ending ≡ some (Answered None)) ⊎ (session f₀ f₁ s budgets h buffer .ending ≡ some (Answered Limit))
+  -- so without a limit a listing can be made
+  pub listing-made : (f₀ f₁ s : List ℕ) (h : Handed) → Begins f₀ f₁ s h → settingsOf s .limit ≡ none → ListingMade f₀ f₁ s
+
+-- 10. Each number from 7 on is given exactly when its line says so and no line before it does; 1 to 6 are `packed`'s
+
+abbrev pub refusal : ℕ → Refused
+refusal number = record { number = number; file = 0 }
+
+-- no line from 1 to 6 says anything of a file
+abbrev pub FilesRead : List ℕ → List ℕ → Type 0
+FilesRead f₀ f₁ = ((k : ℕ) → Says k f₀ → ⊥) × ((k : ℕ) → Says k f₁ → ⊥)
+
+-- no line from 1 to 8 says anything
+abbrev pub Readable : List ℕ → List ℕ → List ℕ → Type 0
+Readable f₀ f₁ s = FilesRead f₀ f₁ × (kind f₀ ≡ kind f₁) × (NotSettings s → ⊥)
+
+pub record NumbersExactly : Type 0 where
+  pub begun-exactly : (f₀ f₁ s : List ℕ) → Begins f₀ f₁ s (handed started) ↔ Readable f₀ f₁ s
+  pub seven : (f₀ f₁ s : List ℕ) → (startSays f₀ f₁ s ≡ refused (refusal 7)) ↔ (FilesRead f₀ f₁ × (kind f₀ ≡ kind f₁ → ⊥))
+  pub eight : (f₀ f₁ s : List ℕ) → (startSays f₀ f₁ s ≡ refused (refusal 8)) ↔ (FilesRead f₀ f₁ × (kind f₀ ≡ kind f₁) × NotSettings s)
+  pub nine : (f₀ f₁ s : List ℕ) (h : Handed) (budget : ℕ) (buffer : List ℕ)
+      → (refusalOf (continueSays f₀ f₁ s h budget buffer) ≡ some (refusal 9))
+      ↔ (Readable f₀ f₁ s × (acceptedHanded (search f₀ f₁ s) h ≡ true → ⊥))
+  pub ten : (f₀ f₁ s : List ℕ) (h : Handed) (budget : ℕ) (buffer : List ℕ)
+      → (refusalOf (continueSays f₀ f₁ s h budget buffer) ≡ some (refusal 10))
+      ↔ (Readable f₀ f₁ s × (acceptedHanded (search f₀ f₁ s) h ≡ true) × (length buffer < 2 * nodeCount f₁))
+  pub eleven : (f₀ f₁ s map′ : List ℕ)
+      → CheckTells f₀ f₁ s map′ (rejected (refusal 11)) ↔ (Readable f₀ f₁ s × (length map′ ≡ nodeCount f₁ → ⊥))
