@@ -1,4 +1,5 @@
--- What the lines of the refusal table say of a file (document 01, "The five outer calls and what they turn away"), and the claims that a refusal is given exactly when its line says so and no line before it does.
+-- What the lines of the refusal table say of a file (document 01, "The five outer calls and what they turn away"), and the claims
+-- that a refusal is given exactly when its line says so and no line before it does.
 use Prim.Native.Nat.{ℕ, zero, suc, _*_, _≤_, _<_}
 use mathlib.Core.List.{List, [], _∷_}
 use mathlib.Core.Logic.{_↔_, _⊎_}
