@@ -24,7 +24,7 @@ use Rattle.promises.specs.Promises.{Begins, CountsAgree, LongEnough, map
 use Rattle.rules.specs.Calls.{begun, orBegun}
 use Rattle.promises.proofs.Files.{begins, no-line}
 use Rattle.promises.proofs.Settings.{unlimitedBytes, unlimited-good, unlimited-settings}
-use Rattle.promises.proofs.Continued.{t, mapOfPath}
+use Rattle.promises.proofs.Continued.{t, mapOfPath, most-steps}
 use Rattle.promises.proofs.Sessions.{seen}
 use Rattle.promises.proofs.Listing.{ending-of, ending-same, limit-most, steps-most, begun-free, from-start, task-agrees, maps-first, none-there, ended-alike}
 
@@ -143,6 +143,10 @@ module _ (f₀ f₁ s s′ : List ℕ) (h h′ : Handed) (limit : ℕ) (b : Begi
                   ap (λ z. z .maps) is ∙ ap (map (mapOfPath f₀ f₁ s)) (w .0) ∙ sym whole-maps,
                   ap (λ z. z .steps) is ∙ w .1 ∙ sym whole-steps,
                 );
+            maps-found = rw is (ap (map (mapOfPath f₀ f₁ s)) (cut .calls-first budgets .found));
+            steps-within = rw is (omega (arith, cut .calls-first budgets .steps-within, most-steps f₀ f₁ s));
+            limit-at = λ k.
+                let w = cut .ended-limit budgets (rules-ending Limit k) in (w .0, ap (λ z. z .steps) is ∙ w .1, w .2, w .3);
             one-more-at-limit = λ k.
                 let w = cut .ended-limit budgets (rules-ending Limit k) in rw (is, cut .accepted-exact budgets, w .1) (w .3);
             accepted-counted = rw is (cut .accepted-exact budgets);

@@ -26,7 +26,7 @@ use Rattle.rules.specs.Handed.{Handed, handed, acceptedHanded}
 use Rattle.rules.specs.Calls.{begun, refused, startSays, ContinueSays, went, turnedAway, continueSays, CheckSays, yes, no, rejected, checkLines, CheckTells}
 use Rattle.rules.specs.Placement.{Placement}
 use Rattle.placements.specs.Listed.{listed}
-use Rattle.placements.specs.Calls.{withoutLimit, unlimited, after, acceptedIn}
+use Rattle.placements.specs.Calls.{withoutLimit, unlimited, after, acceptedIn, foundIn}
 use Rattle.placements.specs.Claims.{Each, AtLeastOne, permutations}
 use Rattle.promises.specs.Sessions.{Map, mapIn, image, shows, Ending, Answered, Session, session}
 
@@ -147,8 +147,16 @@ module _ (f₀ f₁ s : List ℕ) (h : Handed) (budgets buffer : List ℕ) where
         → calls f₀ f₁ s h budgets buffer .ending ≡ some (Answered (cond (ltb limit (whole .handed′ .accepted)) Limit None))
     pub whole-at-none : calls f₀ f₁ s h budgets buffer .ending ≡ some (Answered None)
         → (calls f₀ f₁ s h budgets buffer .maps ≡ whole .maps) × (calls f₀ f₁ s h budgets buffer .steps ≡ whole .steps)
+    -- whatever the ending, the maps are those that the search without a limit finds in as many steps
+    pub maps-found : calls f₀ f₁ s h budgets buffer .maps
+        ≡ map (mapOfIds (settingsOf s) (graphOf f₀) (graphOf f₁)) (foundIn (unlimited (search f₀ f₁ s)) (calls f₀ f₁ s h budgets buffer .steps) started)
+    pub steps-within : calls f₀ f₁ s h budgets buffer .steps ≤ mostSteps f₀ f₁
     pub one-more-at-limit : calls f₀ f₁ s h budgets buffer .ending ≡ some (Answered Limit)
         → calls f₀ f₁ s h budgets buffer .handed′ .accepted ≡ suc limit
+    -- and Limit comes at the step that accepts the pair which passes the limit
+    pub limit-at : calls f₀ f₁ s h budgets buffer .ending ≡ some (Answered Limit)
+        → (k : ℕ) × (calls f₀ f₁ s h budgets buffer .steps ≡ suc k)
+        × (acceptedIn (unlimited (search f₀ f₁ s)) k started ≡ limit) × (acceptedIn (unlimited (search f₀ f₁ s)) (suc k) started ≡ suc limit)
     -- the accepted count is the number of pairs accepted
     pub accepted-counted : calls f₀ f₁ s h budgets buffer .handed′ .accepted
         ≡ acceptedIn (unlimited (search f₀ f₁ s)) (calls f₀ f₁ s h budgets buffer .steps) started
