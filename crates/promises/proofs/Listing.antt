@@ -25,7 +25,6 @@ use Rattle.placements.proofs.Renumbered.{renumbered-placements}
 use Rattle.placements.proofs.Accepted.{accepted-stays}
 use Rattle.placements.proofs.Bound.{steps-within}
 use Rattle.placements.proofs.Greater.{counts-implied}
-use Rattle.placements.proofs.Called.{calls-end}
 use Rattle.placements.proofs.Files.{settings-ensure}
 use Rattle.placements.proofs.Called.{Ends, ends-open, ends-none, ends-limit, calls-end}
 use Rattle.placements.proofs.Listing.{no-map, each-map, listing, first-calls}

@@ -28,10 +28,10 @@ use Rattle.promises.specs.Promises.{search, refusalOf, refusal, FilesRea
 use Rattle.promises.proofs.Files.{file-read, begins}
 
 -- no line has this number
-abbrev pub Without : ℕ → List Line → Type 0
+abbrev Without : ℕ → List Line → Type 0
 Without n ls = Each (λ l. l .gives .number ≡ n → ⊥) ls
 
-pub not-given : (n : ℕ) (ls : List Line) → Without n ls → (r : Refused) → first ls ≡ some r → r .number ≡ n → ⊥
+not-given : (n : ℕ) (ls : List Line) → Without n ls → (r : Refused) → first ls ≡ some r → r .number ≡ n → ⊥
 unfolding first
 not-given n [] w r e k = none-not-some e
 not-given n (l ∷ ls) w r e k =
@@ -40,7 +40,7 @@ not-given n (l ∷ ls) w r e k =
     (λ h. not-given n ls (w .1) r (rw (h, first) at e) k)
 
 -- behind lines with other numbers
-pub behind-exactly : (n : ℕ) (ls ms : List Line) → Without n ls
+behind-exactly : (n : ℕ) (ls ms : List Line) → Without n ls
     → (first (ls ++ ms) ≡ some (refusal n)) ↔ ((first ls ≡ none) × (first ms ≡ some (refusal n)))
 behind-exactly n ls ms w = (
   λ e. option-case (first ls)
@@ -49,7 +49,7 @@ behind-exactly n ls ms w = (
   λ h. first-behind ls ms (h .0) ∙ h .1,
 )
 
-pub line-exactly : (n : ℕ) (b : Bool) (ms : List Line) → Without n ms → (first (line n 0 b ∷ ms) ≡ some (refusal n)) ↔ (b ≡ true)
+line-exactly : (n : ℕ) (b : Bool) (ms : List Line) → Without n ms → (first (line n 0 b ∷ ms) ≡ some (refusal n)) ↔ (b ≡ true)
 unfolding first
 line-exactly n true ms w = (λ e. refl, λ e. refl)
 line-exactly n false ms w = (λ e. absurd (not-given n ms w (refusal n) e refl), λ e. never false e refl)
@@ -108,7 +108,7 @@ module _ (f₀ f₁ s : List ℕ) where
         λ h. outer .1 (file-none 0 f₀ .1 (h .0 .0), inner .1 (file-none 1 f₁ .1 (h .0 .1), rest .1 (h .1))),
       )
 
-  pub pair-none : (first (pairLines f₀ f₁ s) ≡ none) ↔ Readable f₀ f₁ s
+  pair-none : (first (pairLines f₀ f₁ s) ≡ none) ↔ Readable f₀ f₁ s
   pair-none =
       let outer = behind-none (fileLines 0 f₀) (kindLines (kind f₀) f₁ s) in
       let inner = behind-none (fileLines 1 f₁) (line 7 0 kinds ∷ settingsLines s) in
