@@ -2,6 +2,7 @@ pub mod Task
 pub mod Marks
 pub mod Acceptable
 pub mod Search
+pub mod Again
 pub mod Placement
 pub mod Examples
 pub mod Handed
