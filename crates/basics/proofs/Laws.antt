@@ -391,13 +391,13 @@ stored-behind xs l i x e h =
     rw (split, set_at xs (get_or l i x) rest x i e, append_snoc xs x rest)
 
 -- a list of the default is the default wherever it is asked
-pub getD-replicate-default : {A : Type 0} (n : ℕ) (d : A) (i : ℕ) → get_or (replicate n d) i d ≡ d
-getD-replicate-default zero d i = refl
-getD-replicate-default (suc n) d zero = refl
-getD-replicate-default (suc n) d (suc i) = getD-replicate-default n d i
+pub get_or-replicate-default : {A : Type 0} (n : ℕ) (d : A) (i : ℕ) → get_or (replicate n d) i d ≡ d
+get_or-replicate-default zero d i = refl
+get_or-replicate-default (suc n) d zero = refl
+get_or-replicate-default (suc n) d (suc i) = get_or-replicate-default n d i
 
-pub getD-zeros : (n i : ℕ) → get_or {A = ℕ} (replicate n 0) i 0 ≡ 0
-getD-zeros n i = getD-replicate-default n 0 i
+pub get_or-zeros : (n i : ℕ) → get_or {A = ℕ} (replicate n 0) i 0 ≡ 0
+get_or-zeros n i = get_or-replicate-default n 0 i
 
 -- two totals along a run that agree at each of its numbers
 pub total-same-from : (f g : ℕ → ℕ) (k : ℕ) → ((i : ℕ) → i < k → f i ≡ g i) → total f (from 0 k) ≡ total g (from 0 k)

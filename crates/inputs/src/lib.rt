@@ -1,6 +1,6 @@
 // What is searched: two files and settings, through refusals 1 to 8 (document 01, "The five outer calls and what they turn away").
 ghost use Rattle.std.specs.Prelude.{◌≡◌};
-ghost use Rattle.inputs.specs.Inputs.{examineSays, examinePaper, SecondSays, rulesOf};
+ghost use Rattle.inputs.specs.Inputs.{examine_says, examine_paper, SecondSays, rules_of};
 
 use lookup::Rules;
 use packed::{ReadAnswer, Refusal};
@@ -66,7 +66,7 @@ fn examine_second(
 
 // Two files and settings, through refusals 1 to 8.
 pub fn examine(file0: &[u8], file1: &[u8], settings: &[u8]) -> Examined
-    ensures { examinePaper result ≡ examineSays file0.now file1.now settings.now }
+    ensures { examine_paper result ≡ examine_says file0.now file1.now settings.now }
 {
     match packed::read_file(file0, 0) {
         ReadAnswer::Refused { refusal, file } => Examined::Refused { refusal, file },
@@ -87,7 +87,7 @@ pub fn rules_of(
     edges1: usize,
     chosen: Chosen,
 ) -> Rules
-    ensures { result ≡ rulesOf directed n0 edges0 n1 edges1 chosen }
+    ensures { result ≡ rules_of directed n0 edges0 n1 edges1 chosen }
 {
     let n = [n0, n1];
     let edges = [edges0, edges1];

@@ -15,23 +15,23 @@ use Rattle.basics.proofs.Decides.{none_passes}
 use Rattle.bits.specs.Bits.{field}
 use Rattle.bits.proofs.Laws.{field-zero}
 use Rattle.packed.specs.Graph.{Edge, Graph, nodes}
-use Rattle.packed.specs.Packed.{kind, nodeCount, edge_count, label_at, edge_at, usedBits, fileLength, graph_of}
-use Rattle.packed.specs.Refusals.{Refused, first, fileLines, tooShort, tooManyNodes, tooManyEdges, wrongLength, paddingBit, namesUnknown, unknownNode, Reading, graph, refusal, reading}
+use Rattle.packed.specs.Packed.{kind, node_count, edge_count, label_at, edge_at, used_bits, file_length, graph_of}
+use Rattle.packed.specs.Refusals.{Refused, first, file_lines, too_short, too_many_nodes, too_many_edges, wrong_length, padding_bit, names_unknown, unknown_node, Reading, graph, refusal, reading}
 use Rattle.packed.specs.Paper.{counts, refused, summary}
-use Rattle.packed.proofs.First.{test, fileTests, reading-first, reading-graph, a-line}
+use Rattle.packed.proofs.First.{test, file_tests, reading-first, reading-graph, a-line}
 
 pub graph-of : (file : ℕ) (s : List ℕ) (g : Graph) → reading file s ≡ graph g → g ≡ graph_of s
 graph-of file s g e = sym ((reading-graph file s g).0 e).1
 
 pub record Accepted (s : List ℕ) : Type 0 where
-  pub nodes-most : nodeCount s ≤ 128
+  pub nodes_most : node_count s ≤ 128
   pub edges_most : edge_count s ≤ 1024
-  pub long : length s ≡ fileLength (nodeCount s) (edge_count s)
-  pub padded : field s (usedBits (nodeCount s) (edge_count s)) (8 * length s - usedBits (nodeCount s) (edge_count s)) ≡ 0
-  pub ends-below : (j : ℕ) → j < edge_count s → ((edge_at s j).source < nodeCount s) × ((edge_at s j).target < nodeCount s)
-  pub is-graph : (file : ℕ) → reading file s ≡ graph (graph_of s)
+  pub long : length s ≡ file_length (node_count s) (edge_count s)
+  pub padded : field s (used_bits (node_count s) (edge_count s)) (8 * length s - used_bits (node_count s) (edge_count s)) ≡ 0
+  pub ends_below : (j : ℕ) → j < edge_count s → ((edge_at s j).source < node_count s) × ((edge_at s j).target < node_count s)
+  pub is_graph : (file : ℕ) → reading file s ≡ graph (graph_of s)
 
-names-both : (n : ℕ) (e : Edge) → namesUnknown n e ≡ false → (e.source < n) × (e.target < n)
+names-both : (n : ℕ) (e : Edge) → names_unknown n e ≡ false → (e.source < n) × (e.target < n)
 names-both n e h =
     let a = ltb e.source n in
     let b = ltb e.target n in
@@ -40,42 +40,42 @@ names-both n e h =
 
 pub accepted : (file : ℕ) (s : List ℕ) (g : Graph) → reading file s ≡ graph g → Accepted s
 accepted file s g e =
-    let no : ((i : ℕ) → test (fileTests s) i ≡ false) = ((reading-graph file s g).0 e).0 in
+    let no : ((i : ℕ) → test (file_tests s) i ≡ false) = ((reading-graph file s g).0 e).0 in
     record {
-      nodes-most = ltb-false 128 (nodeCount s) (no 1);
+      nodes_most = ltb-false 128 (node_count s) (no 1);
       edges_most = ltb-false 1024 (edge_count s) (no 2);
       long = eqb-true (length s) _ (not-false _ (no 3));
       padded = eqb-true _ 0 (not-false _ (sym (field-zero s _ _) ∙ no 4));
-      ends-below = λ j l.
-          names-both _ (edge_at s j) (none_passes (λ j. namesUnknown (nodeCount s) (edge_at s j)) _ 0 (no 5) j (omega arith) (omega arith));
-      is-graph = λ file. (reading-graph file s (graph_of s)).1 (no, refl);
+      ends_below = λ j l.
+          names-both _ (edge_at s j) (none_passes (λ j. names_unknown (node_count s) (edge_at s j)) _ 0 (no 5) j (omega arith) (omega arith));
+      is_graph = λ file. (reading-graph file s (graph_of s)).1 (no, refl);
     }
 
 -- and every file that no line turns away is accepted
-pub accepts : (file : ℕ) (s : List ℕ) → tooShort s ≡ false → tooManyNodes s ≡ false → tooManyEdges s ≡ false → wrongLength s ≡ false
-    → paddingBit s ≡ false → unknownNode s ≡ false → reading file s ≡ graph (graph_of s)
+pub accepts : (file : ℕ) (s : List ℕ) → too_short s ≡ false → too_many_nodes s ≡ false → too_many_edges s ≡ false → wrong_length s ≡ false
+    → padding_bit s ≡ false → unknown_node s ≡ false → reading file s ≡ graph (graph_of s)
 unfolding first
 accepts file s e₁ e₂ e₃ e₄ e₅ e₆ = rw (reading-first, e₁, e₂, e₃, e₄, e₅, e₆)
 
 -- what Read's answer of an accepted file says of it
 pub record Counted (s : List ℕ) (directed : Bool) (nodes edges : ℕ) : Type 0 where
-  pub file-accepted : Accepted s
-  pub directed-is : directed ≡ eqb (kind s) 1
-  pub nodes-are : nodes ≡ nodeCount s
+  pub file_accepted : Accepted s
+  pub directed_is : directed ≡ eqb (kind s) 1
+  pub nodes_are : nodes ≡ node_count s
   pub edges_are : edges ≡ edge_count s
 
-pub nodes-of-graph : (s : List ℕ) → nodes (graph_of s) ≡ nodeCount s
+pub nodes-of-graph : (s : List ℕ) → nodes (graph_of s) ≡ node_count s
 unfolding graph_of
-nodes-of-graph s = length-map (from 0 (nodeCount s)) (label_at s) ∙ from-length 0 (nodeCount s)
+nodes-of-graph s = length-map (from 0 (node_count s)) (label_at s) ∙ from-length 0 (node_count s)
 
 pub edges-of-graph : (s : List ℕ) → length (graph_of s).edges ≡ edge_count s
 unfolding graph_of
 edges-of-graph s = length-map (from 0 (edge_count s)) (edge_at s) ∙ from-length 0 (edge_count s)
 
-pub label-of-graph : (s : List ℕ) (v : ℕ) → v < nodeCount s → get_or (graph_of s).labels v 0 ≡ label_at s v
+pub label-of-graph : (s : List ℕ) (v : ℕ) → v < node_count s → get_or (graph_of s).labels v 0 ≡ label_at s v
 unfolding graph_of
 label-of-graph s v h =
-    map_at (label_at s) (from 0 (nodeCount s)) v (rw (from-length 0 (nodeCount s)) h) ∙ ap (label_at s) (from_at (nodeCount s) v h)
+    map_at (label_at s) (from 0 (node_count s)) v (rw (from-length 0 (node_count s)) h) ∙ ap (label_at s) (from_at (node_count s) v h)
 
 pub graphs-of-one-kind : (s t : List ℕ) → kind s ≡ kind t → (graph_of t).directed ≡ (graph_of s).directed
 unfolding graph_of
@@ -84,17 +84,17 @@ graphs-of-one-kind s t e = rw e
 -- what holds of the counts that Read answered, and of its flag
 module _ {s : List ℕ} {directed : Bool} {n e : ℕ} (counted : Counted s directed n e) where
   pub counted-nodes-most : n ≤ 128
-  counted-nodes-most = omega (arith, counted.nodes-are, counted.file-accepted.nodes-most)
+  counted-nodes-most = omega (arith, counted.nodes_are, counted.file_accepted.nodes_most)
 
   pub counted-edges-most : e ≤ 1024
-  counted-edges-most = omega (arith, counted.edges_are, counted.file-accepted.edges_most)
+  counted-edges-most = omega (arith, counted.edges_are, counted.file_accepted.edges_most)
 
-  pub counted-bits-most : usedBits n e ≤ 8 * length s
-  counted-bits-most = omega (arith, counted.nodes-are, counted.edges_are, counted.file-accepted.long)
+  pub counted-bits-most : used_bits n e ≤ 8 * length s
+  counted-bits-most = omega (arith, counted.nodes_are, counted.edges_are, counted.file_accepted.long)
 
   pub counted-directed : directed ≡ (graph_of s).directed
   unfolding graph_of
-  counted-directed = counted.directed-is
+  counted-directed = counted.directed_is
 
 counts_same : (a : Bool) (b c : ℕ) (d : Bool) (e f : ℕ) → counts a b c ≡ counts d e f → (a ≡ d) × (b ≡ e) × (c ≡ f)
 counts_same a b c d e f h = (cc, cc, cc)
@@ -108,16 +108,16 @@ counted file s directed n e h = by-reading (reading file s) refl h
         let of = graph-of file s g q in
         let same = rw of at (counts_same directed n e g.directed (nodes g) (length g.edges) h) in
         record {
-          file-accepted = accepted file s g q;
-          directed-is = same.0;
-          nodes-are = same.1 ∙ nodes-of-graph s;
+          file_accepted = accepted file s g q;
+          directed_is = same.0;
+          nodes_are = same.1 ∙ nodes-of-graph s;
           edges_are = same.2 ∙ edges-of-graph s;
         }
     by-reading (refusal r) q h = let z : ◌≡◌ {A = ℕ} 0 1 = cc in absurd (omega arith)
 
-pub refused-line : (file : ℕ) (s : List ℕ) (r : Refused) → refused r ≡ summary (reading file s) → first (fileLines file s) ≡ some r
+pub refused-line : (file : ℕ) (s : List ℕ) (r : Refused) → refused r ≡ summary (reading file s) → first (file_lines file s) ≡ some r
 refused-line file s r h = by-reading (reading file s) refl h
   where
-    by-reading : (q : Reading) → reading file s ≡ q → refused r ≡ summary q → first (fileLines file s) ≡ some r
+    by-reading : (q : Reading) → reading file s ≡ q → refused r ≡ summary q → first (file_lines file s) ≡ some r
     by-reading (graph g) e h = let z : ◌≡◌ {A = ℕ} 0 1 = cc in absurd (omega arith)
     by-reading (refusal q) e h = let same : q ≡ r = cc in rw same at (a-line file s q e)

@@ -11,10 +11,10 @@ use native.Mathlib.Nat.{zero-add}
 use native.Mathlib.Numerals.{add-one}
 use native.Mathlib.Omega.{arith}
 use lib.ListN.{get_or}
-use Rattle.basics.proofs.Tests.{case, option-case, none-not-some, never}
+use Rattle.basics.proofs.Tests.{case, option_case, none-not-some, never}
 use Rattle.packed.specs.Graph.{Graph}
 use Rattle.packed.specs.Packed.{graph_of}
-use Rattle.packed.specs.Refusals.{Refused, Line, line, first, tooShort, tooManyNodes, tooManyEdges, wrongLength, paddingBit, unknownNode, fileLines, graph, refusal, orGraph, reading}
+use Rattle.packed.specs.Refusals.{Refused, Line, line, first, too_short, too_many_nodes, too_many_edges, wrong_length, padding_bit, unknown_node, file_lines, graph, refusal, or_graph, reading}
 
 -- the lines with these tests, numbered from n on
 abbrev pub numbered : ℕ → ℕ → List Bool → List Line
@@ -89,47 +89,47 @@ none-for-cons number file b ls e h = rw (e, first) h
 
 pub none-of-both : (ls ms : List Line) → first (ls ++ ms) ≡ none → (first ls ≡ none) × (first ms ≡ none)
 none-of-both ls ms e =
-    option-case (first ls)
+    option_case (first ls)
     (λ h. (h, sym (first-behind ls ms h) ∙ e))
     (λ r h. none-not-some (sym e ∙ first-before ls ms r h))
 
 -- the tests of the table's lines 1 to 6
-abbrev pub fileTests : List ℕ → List Bool
-fileTests s = tooShort s ∷ tooManyNodes s ∷ tooManyEdges s ∷ wrongLength s ∷ paddingBit s ∷ unknownNode s ∷ []
+abbrev pub file_tests : List ℕ → List Bool
+file_tests s = too_short s ∷ too_many_nodes s ∷ too_many_edges s ∷ wrong_length s ∷ padding_bit s ∷ unknown_node s ∷ []
 
-pub reading-first : (file : ℕ) (s : List ℕ) → reading file s ≡ orGraph (first (numbered 1 file (fileTests s))) (graph_of s)
-unfolding reading fileLines first graph_of
+pub reading-first : (file : ℕ) (s : List ℕ) → reading file s ≡ or_graph (first (numbered 1 file (file_tests s))) (graph_of s)
+unfolding reading file_lines first graph_of
 reading-first file s = refl
 
 graph-refusal : {C : Type 0} (g : Graph) (r : Refused) → graph g ≡ refusal r → C
 graph-refusal g r e = let z : ◌≡◌ {A = ℕ} 0 1 = cc in absurd (omega arith)
 
-or-graph : (o : Option Refused) (g h : Graph) → (orGraph o g ≡ graph h) ↔ ((o ≡ none) × (g ≡ h))
+or-graph : (o : Option Refused) (g h : Graph) → (or_graph o g ≡ graph h) ↔ ((o ≡ none) × (g ≡ h))
 or-graph none g h = (λ e. (refl, cc), λ p. rw p.1)
 or-graph (some r) g h = (λ e. graph-refusal h r (sym e), λ p. none-not-some (sym p.0))
 
-or-refusal : (o : Option Refused) (g : Graph) (r : Refused) → (orGraph o g ≡ refusal r) ↔ (o ≡ some r)
+or-refusal : (o : Option Refused) (g : Graph) (r : Refused) → (or_graph o g ≡ refusal r) ↔ (o ≡ some r)
 or-refusal none g r = (graph-refusal g r, none-not-some)
 or-refusal (some q) g r = (λ e. cc, λ e. cc)
 
 module _ (file : ℕ) (s : List ℕ) where
-  pub reading-graph : (g : Graph) → (reading file s ≡ graph g) ↔ (((i : ℕ) → test (fileTests s) i ≡ false) × (graph_of s ≡ g))
+  pub reading-graph : (g : Graph) → (reading file s ≡ graph g) ↔ (((i : ℕ) → test (file_tests s) i ≡ false) × (graph_of s ≡ g))
   reading-graph g =
-      rw reading-first (Iff.trans (or-graph _ (graph_of s) g) (Iff.and (first-none 1 file (fileTests s)) Iff.rfl))
+      rw reading-first (Iff.trans (or-graph _ (graph_of s) g) (Iff.and (first-none 1 file (file_tests s)) Iff.rfl))
 
   pub reading-refusal : (i : ℕ)
       → (reading file s ≡ refusal (record { number = suc i; file = file }))
-      ↔ ((test (fileTests s) i ≡ true) × ((j : ℕ) → j < i → test (fileTests s) j ≡ false))
-  reading-refusal i = rw (← add-one i, reading-first) (Iff.trans (or-refusal _ (graph_of s) _) (first-at 1 file (fileTests s) i))
+      ↔ ((test (file_tests s) i ≡ true) × ((j : ℕ) → j < i → test (file_tests s) j ≡ false))
+  reading-refusal i = rw (← add-one i, reading-first) (Iff.trans (or-refusal _ (graph_of s) _) (first-at 1 file (file_tests s) i))
 
-  pub no_line : (g : Graph) → reading file s ≡ graph g → first (fileLines file s) ≡ none
+  pub no_line : (g : Graph) → reading file s ≡ graph g → first (file_lines file s) ≡ none
   unfolding reading
-  no_line g e = ((or-graph (first (fileLines file s)) (graph_of s) g).0 e).0
+  no_line g e = ((or-graph (first (file_lines file s)) (graph_of s) g).0 e).0
 
-  pub a-line : (r : Refused) → reading file s ≡ refusal r → first (fileLines file s) ≡ some r
+  pub a-line : (r : Refused) → reading file s ≡ refusal r → first (file_lines file s) ≡ some r
   unfolding reading
-  a-line r e = (or-refusal (first (fileLines file s)) (graph_of s) r).0 e
+  a-line r e = (or-refusal (first (file_lines file s)) (graph_of s) r).0 e
 
   -- the numbers begin at 1
   pub reading-numbers : (r : Refused) → reading file s ≡ refusal r → 1 ≤ r.number
-  reading-numbers r e = given-from 1 file (fileTests s) r ((or-refusal _ (graph_of s) r).0 (rw reading-first at e))
+  reading-numbers r e = given-from 1 file (file_tests s) r ((or-refusal _ (graph_of s) r).0 (rw reading-first at e))

@@ -11,10 +11,10 @@ use Rattle.basics.proofs.Tests.{never}
 use Rattle.basics.proofs.Decides.{Decides, decides-equal, decides-less, decides-not-less, decides-false, decides_not, decides-not-both, decides-any}
 use Rattle.bits.specs.Bits.{bit_at}
 use Rattle.packed.specs.Graph.{Edge}
-use Rattle.packed.specs.Packed.{nodeCount, edge_count, edge_at, usedBits, fileLength, graph_of}
-use Rattle.packed.specs.Refusals.{paddingBit, unknownNode, namesUnknown}
+use Rattle.packed.specs.Packed.{node_count, edge_count, edge_at, used_bits, file_length, graph_of}
+use Rattle.packed.specs.Refusals.{padding_bit, unknown_node, names_unknown}
 use Rattle.packed.specs.Table.{PaddingBitIsOne, EdgeNamesNodeNotBelow, lines, Says, GivenExactly, AcceptedExactly}
-use Rattle.packed.proofs.First.{test, fileTests, reading-graph, reading-refusal, reading-numbers}
+use Rattle.packed.proofs.First.{test, file_tests, reading-graph, reading-refusal, reading-numbers}
 
 -- each test of a list decides the proposition at its place in another
 infixr 5 ◌then◌
@@ -27,37 +27,37 @@ decided-at done i = (λ e. never false e refl, λ h. absurd h)
 decided-at (d then ds) zero = d
 decided-at (d then ds) (suc i) = decided-at ds i
 
-padding-bit : (s : List ℕ) → Decides (paddingBit s) (PaddingBitIsOne s)
+padding-bit : (s : List ℕ) → Decides (padding_bit s) (PaddingBitIsOne s)
 padding-bit s =
-    let used = usedBits (nodeCount s) (edge_count s) in
+    let used = used_bits (node_count s) (edge_count s) in
     let d = decides-any (λ o. eqb (bit_at s o) 1) (λ o. decides-equal (bit_at s o) 1) (8 * length s - used) used in (
-      λ e. let w = d.0 e in record { offset = w.0; behind-the-edges = w.1; within-the-file = omega (arith, w.2); is_one = w.3 },
-      λ h. d.1 (h.offset, h.behind-the-edges, omega arith, h.is_one),
+      λ e. let w = d.0 e in record { offset = w.0; behind_the_edges = w.1; within_the_file = omega (arith, w.2); is_one = w.3 },
+      λ h. d.1 (h.offset, h.behind_the_edges, omega arith, h.is_one),
     )
 
-names-one : (n : ℕ) (e : Edge) → Decides (namesUnknown n e) ((n ≤ e.source) ⊎ (n ≤ e.target))
+names-one : (n : ℕ) (e : Edge) → Decides (names_unknown n e) ((n ≤ e.source) ⊎ (n ≤ e.target))
 names-one n e =
     decides-not-both (ltb e.source n) (ltb e.target n) (decides-not-less e.source n) (decides-not-less e.target n)
 
-unknown-node : (s : List ℕ) → Decides (unknownNode s) (EdgeNamesNodeNotBelow s)
+unknown-node : (s : List ℕ) → Decides (unknown_node s) (EdgeNamesNodeNotBelow s)
 unknown-node s =
-    let n = nodeCount s in
-    let d = decides-any (λ j. namesUnknown n (edge_at s j)) (λ j. names-one n (edge_at s j)) (edge_count s) 0 in (
-      λ e. let w = d.0 e in record { edge = w.0; within-the-file = omega (arith, w.2); not-below = w.3 },
-      λ h. d.1 (h.edge, omega arith, omega arith, h.not-below),
+    let n = node_count s in
+    let d = decides-any (λ j. names_unknown n (edge_at s j)) (λ j. names-one n (edge_at s j)) (edge_count s) 0 in (
+      λ e. let w = d.0 e in record { edge = w.0; within_the_file = omega (arith, w.2); not_below = w.3 },
+      λ h. d.1 (h.edge, omega arith, omega arith, h.not_below),
     )
 
-lines-decided : (s : List ℕ) → Decided (fileTests s) (lines s)
+lines-decided : (s : List ℕ) → Decided (file_tests s) (lines s)
 lines-decided s =
     decides-less (length s) 3
-    then decides-less 128 (nodeCount s)
+    then decides-less 128 (node_count s)
     then decides-less 1024 (edge_count s)
-    then decides_not (decides-equal (length s) (fileLength (nodeCount s) (edge_count s)))
+    then decides_not (decides-equal (length s) (file_length (node_count s) (edge_count s)))
     then padding-bit s
     then unknown-node s
     then done
 
-says-decided : (s : List ℕ) (i : ℕ) → Decides (test (fileTests s) i) (Says (suc i) s)
+says-decided : (s : List ℕ) (i : ℕ) → Decides (test (file_tests s) i) (Says (suc i) s)
 says-decided s i = decided-at (lines-decided s) i
 
 pub given-exactly : (file : ℕ) (s : List ℕ) (k : ℕ) → GivenExactly k file s

@@ -20,8 +20,8 @@ number_of NoAcceptedPath = 9
 number_of BufferTooShort = 10
 number_of WrongMapLength = 11
 
-abbrev pub refusedBy : Refusal → ℕ → Refused
-refusedBy r file = record { number = number_of r; file = file }
+abbrev pub refused_by : Refusal → ℕ → Refused
+refused_by r file = record { number = number_of r; file = file }
 
 -- Read answers kind and both counts, or a refusal
 pub data ReadSays : Type 0 where
@@ -32,6 +32,6 @@ abbrev pub summary : Reading → ReadSays
 summary (graph g) = counts g.directed (nodes g) (length g.edges)
 summary (refusal r) = refused r
 
-abbrev pub readPaper : ReadAnswer → ReadSays
-readPaper (code.Graph directed nodes edges) = counts directed nodes edges
-readPaper (code.Refused r file) = refused (refusedBy r file)
+abbrev pub read_paper : ReadAnswer → ReadSays
+read_paper (code.Graph directed nodes edges) = counts directed nodes edges
+read_paper (code.Refused r file) = refused (refused_by r file)

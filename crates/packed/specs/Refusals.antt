@@ -5,7 +5,7 @@ use Rattle.std.proofs.Math.Option.{Option, none, some}
 use Rattle.basics.specs.Lists.{from, any}
 use Rattle.bits.specs.Bits.{bit_at}
 use Rattle.packed.specs.Graph.{Edge, Graph}
-use Rattle.packed.specs.Packed.{nodeCount, edge_count, edge_at, usedBits, fileLength, graph_of}
+use Rattle.packed.specs.Packed.{node_count, edge_count, edge_at, used_bits, file_length, graph_of}
 
 -- a refusal carries its number and the file's number
 pub record Refused : Type 0 where
@@ -26,45 +26,45 @@ first [] = none
 first (l ∷ ls) = cond l.applies (some l.gives) (first ls)
 
 -- 1: a file has fewer than 3 bytes
-abbrev pub tooShort : List ℕ → Bool
-tooShort s = ltb (length s) 3
+abbrev pub too_short : List ℕ → Bool
+too_short s = ltb (length s) 3
 
 -- 2: N > 128
-abbrev pub tooManyNodes : List ℕ → Bool
-tooManyNodes s = ltb 128 (nodeCount s)
+abbrev pub too_many_nodes : List ℕ → Bool
+too_many_nodes s = ltb 128 (node_count s)
 
 -- 3: E > 1,024
-abbrev pub tooManyEdges : List ℕ → Bool
-tooManyEdges s = ltb 1024 (edge_count s)
+abbrev pub too_many_edges : List ℕ → Bool
+too_many_edges s = ltb 1024 (edge_count s)
 
 -- 4: length is not the length above
-abbrev pub wrongLength : List ℕ → Bool
-wrongLength s = not (eqb (length s) (fileLength (nodeCount s) (edge_count s)))
+abbrev pub wrong_length : List ℕ → Bool
+wrong_length s = not (eqb (length s) (file_length (node_count s) (edge_count s)))
 
 -- the offsets of the bits from one offset up to another
 abbrev pub offsets : ℕ → ℕ → List ℕ
 offsets start end = from start (end - start)
 
 -- 5: a padding bit is 1
-abbrev pub paddingBit : List ℕ → Bool
-paddingBit s = any (λ o. eqb (bit_at s o) 1) (offsets (usedBits (nodeCount s) (edge_count s)) (8 * length s))
+abbrev pub padding_bit : List ℕ → Bool
+padding_bit s = any (λ o. eqb (bit_at s o) 1) (offsets (used_bits (node_count s) (edge_count s)) (8 * length s))
 
 -- 6: an edge names a node not below N
-abbrev pub namesUnknown : ℕ → Edge → Bool
-namesUnknown n e = not (ltb e.source n && ltb e.target n)
+abbrev pub names_unknown : ℕ → Edge → Bool
+names_unknown n e = not (ltb e.source n && ltb e.target n)
 
-abbrev pub unknownNode : List ℕ → Bool
-unknownNode s = any (λ j. namesUnknown (nodeCount s) (edge_at s j)) (from 0 (edge_count s))
+abbrev pub unknown_node : List ℕ → Bool
+unknown_node s = any (λ j. names_unknown (node_count s) (edge_at s j)) (from 0 (edge_count s))
 
 -- the table's lines 1 to 6 for a file
-unfoldable pub fileLines : ℕ → List ℕ → List Line
-fileLines file s =
-    line 1 file (tooShort s)
-    ∷ line 2 file (tooManyNodes s)
-    ∷ line 3 file (tooManyEdges s)
-    ∷ line 4 file (wrongLength s)
-    ∷ line 5 file (paddingBit s)
-    ∷ line 6 file (unknownNode s)
+unfoldable pub file_lines : ℕ → List ℕ → List Line
+file_lines file s =
+    line 1 file (too_short s)
+    ∷ line 2 file (too_many_nodes s)
+    ∷ line 3 file (too_many_edges s)
+    ∷ line 4 file (wrong_length s)
+    ∷ line 5 file (padding_bit s)
+    ∷ line 6 file (unknown_node s)
     ∷ []
 
 -- a byte string is a graph or a refusal
@@ -72,10 +72,10 @@ pub data Reading : Type 0 where
   graph : Graph → Reading
   refusal : Refused → Reading
 
-abbrev pub orGraph : Option Refused → Graph → Reading
-orGraph none g = graph g
-orGraph (some r) g = refusal r
+abbrev pub or_graph : Option Refused → Graph → Reading
+or_graph none g = graph g
+or_graph (some r) g = refusal r
 
 unfoldable pub reading : ℕ → List ℕ → Reading
-unfolding fileLines first graph_of
-reading file s = orGraph (first (fileLines file s)) (graph_of s)
+unfolding file_lines first graph_of
+reading file s = or_graph (first (file_lines file s)) (graph_of s)

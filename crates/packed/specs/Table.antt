@@ -2,7 +2,7 @@
 -- that a refusal is given exactly when its line says so and no line before it does.
 use Rattle.std.specs.Prelude.{ℕ, zero, suc, ◌*◌, ◌≤◌, ◌<◌, List, [], ◌∷◌, ◌↔◌, ◌⊎◌, ◌≡◌, length, get_or}
 use Rattle.bits.specs.Bits.{bit_at}
-use Rattle.packed.specs.Packed.{nodeCount, edge_count, edge_at, usedBits, fileLength, graph_of}
+use Rattle.packed.specs.Packed.{node_count, edge_count, edge_at, used_bits, file_length, graph_of}
 use Rattle.packed.specs.Refusals.{graph, refusal, reading}
 
 -- 1: a file has fewer than 3 bytes
@@ -11,7 +11,7 @@ FewerThanThreeBytes s = length s < 3
 
 -- 2: N > 128
 abbrev pub MoreThan128Nodes : List ℕ → Type 0
-MoreThan128Nodes s = 128 < nodeCount s
+MoreThan128Nodes s = 128 < node_count s
 
 -- 3: E > 1,024
 abbrev pub MoreThan1024Edges : List ℕ → Type 0
@@ -19,20 +19,20 @@ MoreThan1024Edges s = 1024 < edge_count s
 
 -- 4: length is not the length above
 abbrev pub NotTheLength : List ℕ → Type 0
-NotTheLength s = length s ≡ fileLength (nodeCount s) (edge_count s) → ⊥
+NotTheLength s = length s ≡ file_length (node_count s) (edge_count s) → ⊥
 
 -- 5: a padding bit is 1
 pub record PaddingBitIsOne (s : List ℕ) : Type 0 where
   pub offset : ℕ
-  pub behind-the-edges : usedBits (nodeCount s) (edge_count s) ≤ offset
-  pub within-the-file : offset < 8 * length s
+  pub behind_the_edges : used_bits (node_count s) (edge_count s) ≤ offset
+  pub within_the_file : offset < 8 * length s
   pub is_one : bit_at s offset ≡ 1
 
 -- 6: an edge names a node not below N
 pub record EdgeNamesNodeNotBelow (s : List ℕ) : Type 0 where
   pub edge : ℕ
-  pub within-the-file : edge < edge_count s
-  pub not-below : (nodeCount s ≤ (edge_at s edge).source) ⊎ (nodeCount s ≤ (edge_at s edge).target)
+  pub within_the_file : edge < edge_count s
+  pub not_below : (node_count s ≤ (edge_at s edge).source) ⊎ (node_count s ≤ (edge_at s edge).target)
 
 -- the lines about a file, from 1 on
 abbrev pub lines : List ℕ → List (Type 0)

@@ -5,10 +5,10 @@ use mathlib.Core.List.{List, [], ◌∷◌}
 use mathlib.Core.Path.{◌≡◌, refl}
 use lib.ListN.{length}
 use borrow.Author.Tests.{le-leb}
-use Rattle.basics.proofs.Tests.{case, option-case, never, and_intro}
+use Rattle.basics.proofs.Tests.{case, option_case, never, and_intro}
 use Rattle.packed.specs.Graph.{nodes}
 use Rattle.rules.specs.Task.{Task}
-use Rattle.rules.specs.Search.{Top, Outer, Inner, Unwind, Record, started, candidateAt, onward, accepts, above, raised, step, continue, acceptedPath, topOffered, acceptedRecord}
+use Rattle.rules.specs.Search.{Top, Outer, Inner, Unwind, Record, started, candidate_at, onward, accepts, above, raised, step, continue, accepted_path, top_offered, accepted_record}
 use Rattle.placements.specs.Listed.{whole}
 use Rattle.placements.specs.Claims.{Sound, AcceptedStays, EveryMapPlaces}
 use Rattle.rules.proofs.Runs.{run-keeps, run-found}
@@ -20,61 +20,61 @@ use Rattle.placements.proofs.Steps.{step-candidate, step-none, step-taken, step-
 module _ (t : Task) where
   -- an accepted path, and an Inner position in the candidate's list
   pub record Good (r : Record) : Type 0 where
-    pub path-accepted : acceptedPath t r.path ≡ true
-    pub top-offered : topOffered t r.path r.top ≡ true
+    pub path_accepted : accepted_path t r.path ≡ true
+    pub offered_top : top_offered t r.path r.top ≡ true
 
-  pub good-accepted : (r : Record) → Good r → acceptedRecord t r ≡ true
-  unfolding acceptedRecord
+  pub good-accepted : (r : Record) → Good r → accepted_record t r ≡ true
+  unfolding accepted_record
   good-accepted r g =
-      and_intro (le-leb (length r.path) (nodes t.graph₀) (depth₀ t r.path g.path-accepted))
-      (and_intro (le-leb (length r.path) (nodes t.graph₁) (depth₁ t r.path g.path-accepted))
-      (and_intro g.path-accepted g.top-offered))
+      and_intro (le-leb (length r.path) (nodes t.graph₀) (depth₀ t r.path g.path_accepted))
+      (and_intro (le-leb (length r.path) (nodes t.graph₁) (depth₁ t r.path g.path_accepted))
+      (and_intro g.path_accepted g.offered_top))
 
-  pub accepted-good : (r : Record) → acceptedRecord t r ≡ true → Good r
+  pub accepted-good : (r : Record) → accepted_record t r ≡ true → Good r
   accepted-good r e =
       let p = record-passes t r e in
-      record { path-accepted = p.path-accepted; top-offered = p.top-offered }
+      record { path_accepted = p.path_accepted; offered_top = p.offered_top }
 
   step-good : (path : List ℕ) (top : Top) (k : ℕ) → Good (record { path = path; top = top; accepted = k }) → Good (step t path top k).0
   step-good path Outer k g =
-      option-case (candidateAt t path)
-      (λ e. rw (step-none t path k e) (record { path-accepted = g.path-accepted; top-offered = refl }))
-      (λ c e. rw (step-candidate t path k c e) (record { path-accepted = g.path-accepted; top-offered = outer-offered t path c e }))
+      option_case (candidate_at t path)
+      (λ e. rw (step-none t path k e) (record { path_accepted = g.path_accepted; offered_top = refl }))
+      (λ c e. rw (step-candidate t path k c e) (record { path_accepted = g.path_accepted; offered_top = outer-offered t path c e }))
   step-good path (Inner x) k g =
       case (accepts t path x)
       (λ e. case (above t.settings.limit (raised k))
-      (λ f. rw (step-over t path x k e f) (record { path-accepted = g.path-accepted; top-offered = g.top-offered }))
+      (λ f. rw (step-over t path x k e f) (record { path_accepted = g.path_accepted; offered_top = g.offered_top }))
       (λ f. rw (step-taken t path x k e f)
-      (record { path-accepted = path-joined t x path g.path-accepted g.top-offered e; top-offered = refl })))
-      (λ e. rw (step-passed t path x k e) (record { path-accepted = g.path-accepted; top-offered = onward-offered t path x }))
-  step-good [] Unwind k g = rw (step_end t k) (record { path-accepted = g.path-accepted; top-offered = refl })
+      (record { path_accepted = path-joined t x path g.path_accepted g.offered_top e; offered_top = refl })))
+      (λ e. rw (step-passed t path x k e) (record { path_accepted = g.path_accepted; offered_top = onward-offered t path x }))
+  step-good [] Unwind k g = rw (step_end t k) (record { path_accepted = g.path_accepted; offered_top = refl })
   step-good (x ∷ path) Unwind k g =
       rw (step_left t path x k)
-      (record { path-accepted = (path-last t x path g.path-accepted).0; top-offered = onward-offered t path x })
+      (record { path_accepted = (path-last t x path g.path_accepted).0; offered_top = onward-offered t path x })
 
   pub steps-keep-good : (r : Record) → Good r → Good (step t r.path r.top r.accepted).0
   steps-keep-good r g =
-      step-good r.path r.top r.accepted (record { path-accepted = g.path-accepted; top-offered = g.top-offered })
+      step-good r.path r.top r.accepted (record { path_accepted = g.path_accepted; offered_top = g.offered_top })
 
   pub start-good : Good started
-  start-good = record { path-accepted = accepted-nil t; top-offered = refl }
+  start-good = record { path_accepted = accepted-nil t; offered_top = refl }
 
   pub accepted-stays : AcceptedStays t
   accepted-stays =
       record {
-        at-start = good-accepted started start-good;
+        at_start = good-accepted started start-good;
         onward = λ b r e. good-accepted (continue t b r).record' (run-keeps t Good steps-keep-good b 0 r (accepted-good r e));
       }
 
   -- a step that finds leaves a whole accepted path
   record Map (r : Record) : Type 0 where
-    map-accepted : acceptedPath t r.path ≡ true
+    map_accepted : accepted_path t r.path ≡ true
     map_whole : whole t r.path ≡ true
 
-  found_map : (path : List ℕ) (top : Top) (k : ℕ) → acceptedPath t path ≡ true → (step t path top k).1 ≡ true → Map (step t path top k).0
+  found_map : (path : List ℕ) (top : Top) (k : ℕ) → accepted_path t path ≡ true → (step t path top k).1 ≡ true → Map (step t path top k).0
   found_map path Outer k g f =
-      option-case (candidateAt t path)
-      (λ e. rw (step-none t path k e) (record { map-accepted = g; map_whole = rw (step-none t path k e) at f }))
+      option_case (candidate_at t path)
+      (λ e. rw (step-none t path k e) (record { map_accepted = g; map_whole = rw (step-none t path k e) at f }))
       (λ c e. never false (rw (step-candidate t path k c e) at f) refl)
   found_map path (Inner x) k g f =
       case (accepts t path x)
@@ -88,6 +88,6 @@ module _ (t : Task) where
   pub every-map-places : Sound t → EveryMapPlaces t
   every-map-places sound b r e f =
       let m =
-      run-found t Good steps-keep-good Map (λ q g h. found_map q.path q.top q.accepted g.path-accepted h) b 0 r
+      run-found t Good steps-keep-good Map (λ q g h. found_map q.path q.top q.accepted g.path_accepted h) b 0 r
       (accepted-good r e) f in
-      path-places t sound (continue t b r).record'.path m.map-accepted m.map_whole
+      path-places t sound (continue t b r).record'.path m.map_accepted m.map_whole

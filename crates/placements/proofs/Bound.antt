@@ -11,13 +11,13 @@ use Rattle.basics.proofs.Tests.{case}
 use Rattle.basics.proofs.Laws.{total-nil, total-cons, member-head, member-tail}
 use Rattle.packed.specs.Graph.{nodes}
 use Rattle.rules.specs.Task.{Task}
-use Rattle.rules.specs.Search.{accepts, acceptedPath}
-use Rattle.placements.specs.Listed.{tried, stepsFrom, steps_of}
+use Rattle.rules.specs.Search.{accepts, accepted_path}
+use Rattle.placements.specs.Listed.{tried, steps_from, steps_of}
 use Rattle.placements.specs.Claims.{falling, permutations}
 use Rattle.placements.proofs.Sums.{sum-none, sum-suc}
 use Rattle.rules.proofs.Stays.{path-joined}
 use Rattle.placements.proofs.Paths.{accepted-nil, tried-offered, tried-few}
-use Rattle.placements.proofs.Searched.{stepsAt, steps-last, steps-more}
+use Rattle.placements.proofs.Searched.{steps_at, steps-last, steps-more}
 
 permutations-one : (m : ℕ) → permutations m 0 ≡ 1
 unfolding falling
@@ -46,35 +46,35 @@ node-most n m l w p h i j = omega (arith, mul-le-mul_right (suc ((n + 2) * p)) h
 
 module _ (t : Task) where
   branches-most : (k : ℕ) (path : List ℕ) (b : ℕ) (r : List ℕ)
-      → ((x : ℕ) → member x r ≡ true → accepts t path x ≡ true → suc (stepsFrom t k (x ∷ path)) ≤ b)
-      → total (stepsAt t k path) r ≤ length r * suc b
-  branches-most k path b [] h = omega (arith, total-nil (stepsAt t k path))
+      → ((x : ℕ) → member x r ≡ true → accepts t path x ≡ true → suc (steps_from t k (x ∷ path)) ≤ b)
+      → total (steps_at t k path) r ≤ length r * suc b
+  branches-most k path b [] h = omega (arith, total-nil (steps_at t k path))
   branches-most k path b (x ∷ r) h =
       let rest = branches-most k path b r (λ y m. h y (member-tail y x r m)) in
       case (accepts t path x)
       (λ e.
-      let here : stepsAt t k path x ≡ suc (suc (stepsFrom t k (x ∷ path))) = rw e in
-      omega (arith, total-cons (stepsAt t k path) x r, h x (member-head x r) e))
+      let here : steps_at t k path x ≡ suc (suc (steps_from t k (x ∷ path))) = rw e in
+      omega (arith, total-cons (steps_at t k path) x r, h x (member-head x r) e))
       (λ e.
-      let here : stepsAt t k path x ≡ 1 = rw e in
-      omega (arith, total-cons (stepsAt t k path) x r))
+      let here : steps_at t k path x ≡ 1 = rw e in
+      omega (arith, total-cons (steps_at t k path) x r))
 
-  steps-most : (k : ℕ) (path : List ℕ) → acceptedPath t path ≡ true
-      → suc (stepsFrom t k path) ≤ (nodes t.graph₀ + 2) * permutations (nodes t.graph₀ - length path) k
-  steps-most zero path a = rw (permutations-one (nodes t.graph₀ - length path), steps-last t path) (omega arith)
-  steps-most (suc k) path a =
+  steps_most : (k : ℕ) (path : List ℕ) → accepted_path t path ≡ true
+      → suc (steps_from t k path) ≤ (nodes t.graph₀ + 2) * permutations (nodes t.graph₀ - length path) k
+  steps_most zero path a = rw (permutations-one (nodes t.graph₀ - length path), steps-last t path) (omega arith)
+  steps_most (suc k) path a =
       let n = nodes t.graph₀ in
       let m = n - length path in
       let p = permutations (m - 1) k in
       let less : n - length path - 1 ≡ n - suc (length path) = omega arith in
       let most = branches-most k path ((n + 2) * p) (tried t path)
-      (λ x l e. rw less (steps-most k (x ∷ path) (path-joined t x path a (tried-offered t path x l) e))) in
+      (λ x l e. rw less (steps_most k (x ∷ path) (path-joined t x path a (tried-offered t path x l) e))) in
       let few = tried-few t path a in
       rw (permutations-first m k, steps-more t k path)
-      (node-most n m (length (tried t path)) (total (stepsAt t k path) (tried t path)) p (omega arith) (omega arith) most)
+      (node-most n m (length (tried t path)) (total (steps_at t k path) (tried t path)) p (omega arith) (omega arith) most)
 
-  pub steps-within : steps_of t ≤ (nodes t.graph₀ + 2) * permutations (nodes t.graph₀) (nodes t.graph₁)
-  steps-within =
+  pub steps_within : steps_of t ≤ (nodes t.graph₀ + 2) * permutations (nodes t.graph₀) (nodes t.graph₁)
+  steps_within =
       let whole : nodes t.graph₀ - 0 ≡ nodes t.graph₀ = omega arith in
-      let most = rw whole at (steps-most (nodes t.graph₁) [] (accepted-nil t)) in
+      let most = rw whole at (steps_most (nodes t.graph₁) [] (accepted-nil t)) in
       omega (arith, most)

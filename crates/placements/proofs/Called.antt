@@ -7,14 +7,14 @@ use mathlib.Core.Path.{◌≡◌, refl, sym, ◌∙◌, ap}
 use native.Mathlib.Omega.{arith}
 use lib.ListN.{length}
 use borrow.Author.Tests.{le-ltb}
-use Rattle.basics.proofs.Tests.{option-case}
-use Rattle.rules.specs.Task.{Task, countsAgree}
+use Rattle.basics.proofs.Tests.{option_case}
+use Rattle.rules.specs.Task.{Task, counts_agree}
 use Rattle.rules.specs.Search.{Unwind, Record, started, above, Found, None, Limit, Paused, continue}
-use Rattle.placements.specs.Listed.{listed, steps_of, acceptedOf}
-use Rattle.placements.specs.Calls.{Called, after_call, last-call, calls}
+use Rattle.placements.specs.Listed.{listed, steps_of, accepted_of}
+use Rattle.placements.specs.Calls.{Called, after_call, last_call, calls}
 use Rattle.placements.specs.Claims.{AtLeastOne, LimitMost}
 use Rattle.placements.proofs.Searched.{nothing, searched}
-use Rattle.placements.proofs.Continued.{Point, Exceeded, Ran, ran-none, ran-limit, ran-found, ran-paused, run-from}
+use Rattle.placements.proofs.Continued.{Point, Exceeded, Ran, ran_none, ran_limit, ran_found, ran_paused, run-from}
 
 module _ (t : Task) where
   pub calls-nil : (r : Record) → calls t [] r ≡ record { maps = []; steps = 0; ending = none; record' = r }
@@ -32,12 +32,12 @@ module _ (t : Task) where
     unfolding calls
     calls-paused e = rw (e, calls)
 
-    pub calls-none : (continue t b r).answer ≡ None → calls t (b ∷ bs) r ≡ last-call t (continue t b r)
+    pub calls-none : (continue t b r).answer ≡ None → calls t (b ∷ bs) r ≡ last_call t (continue t b r)
     unfolding calls
     calls-none e =
         rw (e, calls) (λ i. record { maps = []; steps = (continue t b r).steps; ending = some (e i); record' = (continue t b r).record' })
 
-    pub calls-limit : (continue t b r).answer ≡ Limit → calls t (b ∷ bs) r ≡ last-call t (continue t b r)
+    pub calls-limit : (continue t b r).answer ≡ Limit → calls t (b ∷ bs) r ≡ last_call t (continue t b r)
     unfolding calls
     calls-limit e =
         rw (e, calls) (λ i. record { maps = []; steps = (continue t b r).steps; ending = some (e i); record' = (continue t b r).record' })
@@ -46,11 +46,11 @@ module _ (t : Task) where
   pub data Ends (budgets : List ℕ) (done : List (List ℕ)) (s : ℕ) (w : Called t) : Type 0 where
     ends_open : w.ending ≡ none → (s' c : ℕ) → Point t w.record' (done ++ w.maps) s' c → w.steps + s ≡ s'
         → (AtLeastOne budgets → length budgets ≤ w.steps) → Ends budgets done s w
-    ends-none : w.ending ≡ some None → done ++ w.maps ≡ listed t → w.steps + s ≡ steps_of t → w.record'.path ≡ []
+    ends_none : w.ending ≡ some None → done ++ w.maps ≡ listed t → w.steps + s ≡ steps_of t → w.record'.path ≡ []
         → w.record'.top ≡ Unwind
-        → w.record'.accepted ≡ min (acceptedOf t) 4294967295 → above t.settings.limit w.record'.accepted ≡ false
+        → w.record'.accepted ≡ min (accepted_of t) 4294967295 → above t.settings.limit w.record'.accepted ≡ false
         → Ends budgets done s w
-    ends-limit : w.ending ≡ some Limit → (s' c : ℕ) → Exceeded t w.record' (done ++ w.maps) s' c → w.steps + s ≡ s'
+    ends_limit : w.ending ≡ some Limit → (s' c : ℕ) → Exceeded t w.record' (done ++ w.maps) s' c → w.steps + s ≡ s'
         → Ends budgets done s w
 
   -- a call more in front, which finds these maps
@@ -58,27 +58,27 @@ module _ (t : Task) where
       → Ends budgets (done ++ maps) s' w → Ends (b ∷ budgets) done s (after_call t maps n w)
   ends_more b budgets done maps s n s' w e l (ends_open a s'' c p q h) =
       ends_open a s'' c (rw (append_assoc done maps w.maps) at p) (omega arith) (λ o. let x = l o.0 in let y = h o.1 in omega arith)
-  ends_more b budgets done maps s n s' w e l (ends-none a d q x y z v) =
-      ends-none a (sym (append_assoc done maps w.maps) ∙ d) (omega arith) x y z v
-  ends_more b budgets done maps s n s' w e l (ends-limit a s'' c p q) =
-      ends-limit a s'' c (rw (append_assoc done maps w.maps) at p) (omega arith)
+  ends_more b budgets done maps s n s' w e l (ends_none a d q x y z v) =
+      ends_none a (sym (append_assoc done maps w.maps) ∙ d) (omega arith) x y z v
+  ends_more b budgets done maps s n s' w e l (ends_limit a s'' c p q) =
+      ends_limit a s'' c (rw (append_assoc done maps w.maps) at p) (omega arith)
 
-  module _ (most : LimitMost t) (agreed : countsAgree t ≡ true) where
+  module _ (most : LimitMost t) (agreed : counts_agree t ≡ true) where
     abbrev Calls : List ℕ → Type 0
     Calls budgets = (r : Record) (done : List (List ℕ)) (s c : ℕ) → Point t r done s c → Ends budgets done s (calls t budgets r)
 
     one-call : (b : ℕ) (budgets : List ℕ) → Calls budgets → (r : Record) (done : List (List ℕ)) (s : ℕ)
         → Ran t most b 0 done s (continue t b r) → Ends (b ∷ budgets) done s (calls t (b ∷ budgets) r)
-    one-call b budgets rest r done s (ran-none a e d x y z v) =
-        rw (calls-none b budgets r a) (ends-none (ap some a) (append-nil done ∙ d) (omega arith) x y z v)
-    one-call b budgets rest r done s (ran-limit a s' c p e) =
-        rw (calls-limit b budgets r a) (ends-limit (ap some a) s' c (rw (append-nil done) p) (omega arith))
-    one-call b budgets rest r done s (ran-found a s' c p e l) =
+    one-call b budgets rest r done s (ran_none a e d x y z v) =
+        rw (calls-none b budgets r a) (ends_none (ap some a) (append-nil done ∙ d) (omega arith) x y z v)
+    one-call b budgets rest r done s (ran_limit a s' c p e) =
+        rw (calls-limit b budgets r a) (ends_limit (ap some a) s' c (rw (append-nil done) p) (omega arith))
+    one-call b budgets rest r done s (ran_found a s' c p e l) =
         let w = continue t b r in
         rw (calls_found b budgets r a)
         (ends_more b budgets done (w.record'.path ∷ []) s w.steps s' (calls t budgets w.record') (omega arith) (λ h. omega arith)
         (rest w.record' (done ++ (w.record'.path ∷ [])) s' c p))
-    one-call b budgets rest r done s (ran-paused a s' c p e l) =
+    one-call b budgets rest r done s (ran_paused a s' c p e l) =
         let w = continue t b r in
         rw (calls-paused b budgets r a)
         (ends_more b budgets done [] s w.steps s' (calls t budgets w.record') (omega arith) (λ h. omega arith)
@@ -91,22 +91,22 @@ module _ (t : Task) where
 
     -- at Start nothing has been done, and all is left
     start-within : above t.settings.limit 0 ≡ false
-    start-within = option-case t.settings.limit (λ h. rw h) (λ limit h. rw h (le-ltb limit 0 (omega arith)))
+    start-within = option_case t.settings.limit (λ h. rw h) (λ limit h. rw h (le-ltb limit 0 (omega arith)))
 
-    at-start : Point t started [] 0 0
-    at-start =
+    at_start : Point t started [] 0 0
+    at_start =
         record {
-          rest-steps = steps_of t;
-          rest-pairs = acceptedOf t;
-          rest-maps = listed t;
+          rest_steps = steps_of t;
+          rest_pairs = accepted_of t;
+          rest_maps = listed t;
           made = nothing;
           rest = searched t;
-          steps-sum = omega arith;
-          pairs-sum = omega arith;
-          maps-sum = refl;
+          steps_sum = omega arith;
+          pairs_sum = omega arith;
+          maps_sum = refl;
           counted = refl;
           within = start-within;
         }
 
-    pub calls-end : (budgets : List ℕ) → Ends budgets [] 0 (calls t budgets started)
-    calls-end budgets = calls-from budgets started [] 0 0 at-start
+    pub calls_end : (budgets : List ℕ) → Ends budgets [] 0 (calls t budgets started)
+    calls_end budgets = calls-from budgets started [] 0 0 at_start

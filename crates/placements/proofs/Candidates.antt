@@ -11,8 +11,8 @@ use Rattle.basics.proofs.Tests.{never, false-by, none-not-some}
 use Rattle.basics.proofs.Laws.{member-nil, member-kept, from_member}
 use Rattle.packed.specs.Graph.{nodes}
 use Rattle.rules.specs.Task.{Task, Pairs, exchanged, mapped}
-use Rattle.rules.specs.Marks.{OpenList, Out, In, Other, inList, head, least, Candidate, both, or_else, leastOf, candidate}
-use Rattle.rules.specs.Search.{pairsOf, candidateAt, offered}
+use Rattle.rules.specs.Marks.{OpenList, Out, In, Other, in_list, head, least, Candidate, both, or_else, least_of, candidate}
+use Rattle.rules.specs.Search.{pairs_of, candidate_at, offered}
 
 head-none : (l : List ℕ) → head l ≡ none → l ≡ []
 head-none [] e = refl
@@ -26,11 +26,11 @@ least-none p n x e l =
     (member-kept p x (from 0 (n - 0)) h (from_member (n - 0) 0 x (omega arith) (omega arith)))) (member-nil x))
 
 module _ (t : Task) where
-  abbrev pub inList₀ : Pairs → OpenList → ℕ → Bool
-  inList₀ ps list = inList t.graph₀ (mapped ps) list
+  abbrev pub in_list₀ : Pairs → OpenList → ℕ → Bool
+  in_list₀ ps list = in_list t.graph₀ (mapped ps) list
 
-  abbrev pub inList₁ : Pairs → OpenList → ℕ → Bool
-  inList₁ ps list = inList t.graph₁ (mapped (exchanged ps)) list
+  abbrev pub in_list₁ : Pairs → OpenList → ℕ → Bool
+  in_list₁ ps list = in_list t.graph₁ (mapped (exchanged ps)) list
 
   both-none : {C : Type 0} (list : OpenList) (x y : Option ℕ) → both list x y ≡ none → (x ≡ none → C) → (y ≡ none → C) → C
   both-none list none y e f g = f refl
@@ -42,21 +42,21 @@ module _ (t : Task) where
   or_else_none (some c) d e = none-not-some (sym e)
 
   pub candidate-none : {C : Type 0} (ps : Pairs) → candidate t ps ≡ none
-      → (((x : ℕ) → x < nodes t.graph₀ → inList₀ ps Other x ≡ false) → C)
-      → (((x : ℕ) → x < nodes t.graph₁ → inList₁ ps Other x ≡ false) → C) → C
+      → (((x : ℕ) → x < nodes t.graph₀ → in_list₀ ps Other x ≡ false) → C)
+      → (((x : ℕ) → x < nodes t.graph₁ → in_list₁ ps Other x ≡ false) → C) → C
   unfolding candidate
   candidate-none ps e f g =
-      both-none Other (least (inList₀ ps Other) (nodes t.graph₀) 0) (least (inList₁ ps Other) (nodes t.graph₁) 0)
-      (or_else_none (leastOf t ps In) (leastOf t ps Other)
-      (or_else_none (leastOf t ps Out) (or_else (leastOf t ps In) (leastOf t ps Other)) e))
-      (λ h. f (λ x l. least-none (inList₀ ps Other) (nodes t.graph₀) x h l))
-      (λ h. g (λ x l. least-none (inList₁ ps Other) (nodes t.graph₁) x h l))
+      both-none Other (least (in_list₀ ps Other) (nodes t.graph₀) 0) (least (in_list₁ ps Other) (nodes t.graph₁) 0)
+      (or_else_none (least_of t ps In) (least_of t ps Other)
+      (or_else_none (least_of t ps Out) (or_else (least_of t ps In) (least_of t ps Other)) e))
+      (λ h. f (λ x l. least-none (in_list₀ ps Other) (nodes t.graph₀) x h l))
+      (λ h. g (λ x l. least-none (in_list₁ ps Other) (nodes t.graph₁) x h l))
 
-  pub offered-at : (path : List ℕ) (c : Candidate) (x : ℕ) → candidateAt t path ≡ some c
-      → offered t path x ≡ (ltb x (nodes t.graph₀) && inList₀ (pairsOf t path) c.list x)
+  pub offered-at : (path : List ℕ) (c : Candidate) (x : ℕ) → candidate_at t path ≡ some c
+      → offered t path x ≡ (ltb x (nodes t.graph₀) && in_list₀ (pairs_of t path) c.list x)
   unfolding offered
   offered-at path c x e = rw e
 
-  pub offered-never : (path : List ℕ) (x : ℕ) → candidateAt t path ≡ none → offered t path x ≡ false
+  pub offered-never : (path : List ℕ) (x : ℕ) → candidate_at t path ≡ none → offered t path x ≡ false
   unfolding offered
   offered-never path x e = rw e

@@ -8,10 +8,10 @@ use mathlib.Core.Path.{◌≡◌, refl, sym, ◌∙◌, ap}
 use native.Mathlib.Omega.{arith}
 use lib.Dec.{ltb}
 use borrow.Author.Tests.{ltb-true, ltb-false}
-use Rattle.basics.proofs.Tests.{case, option-case, never}
-use Rattle.rules.specs.Task.{Task, countsAgree}
-use Rattle.rules.specs.Search.{Top, Outer, Inner, Unwind, Record, above, raised, step, Found, None, Limit, Paused, isEnd, Went, run}
-use Rattle.placements.specs.Listed.{listed, steps_of, acceptedOf}
+use Rattle.basics.proofs.Tests.{case, option_case, never}
+use Rattle.rules.specs.Task.{Task, counts_agree}
+use Rattle.rules.specs.Search.{Top, Outer, Inner, Unwind, Record, above, raised, step, Found, None, Limit, Paused, is_end, Went, run}
+use Rattle.placements.specs.Listed.{listed, steps_of, accepted_of}
 use Rattle.placements.specs.Claims.{LimitMost}
 use Rattle.rules.proofs.Runs.{outer_goes, inner-goes, run-stops, run-pauses, run-finds, run-goes-on, stops-ended, stops-limited, stops_nowhere}
 use Rattle.placements.proofs.Steps.{step-candidate, step-none, step-taken, step-over, step-passed, step_left}
@@ -23,14 +23,14 @@ raised-counts c = omega arith
 module _ (t : Task) where
   -- so many steps and pairs from Start, with these maps
   pub record Point (r : Record) (done : List (List ℕ)) (s c : ℕ) : Type 0 where
-    pub rest-steps : ℕ
-    pub rest-pairs : ℕ
-    pub rest-maps : List (List ℕ)
+    pub rest_steps : ℕ
+    pub rest_pairs : ℕ
+    pub rest_maps : List (List ℕ)
     pub made : Search t [] Outer s c done r.path r.top
-    pub rest : Search t r.path r.top rest-steps rest-pairs rest-maps [] Unwind
-    pub steps-sum : s + rest-steps ≡ steps_of t
-    pub pairs-sum : c + rest-pairs ≡ acceptedOf t
-    pub maps-sum : done ++ rest-maps ≡ listed t
+    pub rest : Search t r.path r.top rest_steps rest_pairs rest_maps [] Unwind
+    pub steps_sum : s + rest_steps ≡ steps_of t
+    pub pairs_sum : c + rest_pairs ≡ accepted_of t
+    pub maps_sum : done ++ rest_maps ≡ listed t
     pub counted : r.accepted ≡ min c 4294967295
     pub within : above t.settings.limit r.accepted ≡ false
 
@@ -38,30 +38,30 @@ module _ (t : Task) where
   pub record Exceeded (r : Record) (done : List (List ℕ)) (s c : ℕ) : Type 0 where
     pub limit : ℕ
     pub node : ℕ
-    pub rest-maps : List (List ℕ)
+    pub rest_maps : List (List ℕ)
     pub limited : t.settings.limit ≡ some limit
-    pub steps-before : ℕ
-    pub step-here : s ≡ suc steps-before
-    pub pair-here : c ≡ suc limit
-    pub top-is : r.top ≡ Inner node
-    pub before : Search t [] Outer steps-before limit done r.path (Inner node)
+    pub steps_before : ℕ
+    pub step_here : s ≡ suc steps_before
+    pub pair_here : c ≡ suc limit
+    pub top_is : r.top ≡ Inner node
+    pub before : Search t [] Outer steps_before limit done r.path (Inner node)
     pub made : Search t [] Outer s c done (node ∷ r.path) Outer
-    pub steps-most : s ≤ steps_of t
-    pub pairs-most : c ≤ acceptedOf t
-    pub maps-sum : done ++ rest-maps ≡ listed t
+    pub steps_most : s ≤ steps_of t
+    pub pairs_most : c ≤ accepted_of t
+    pub maps_sum : done ++ rest_maps ≡ listed t
     pub counted : r.accepted ≡ c
     pub over : above t.settings.limit r.accepted ≡ true
 
   -- what a step does at a point
   data Advance (r : Record) (done : List (List ℕ)) (s c : ℕ) : Type 0 where
-    at-end : r.path ≡ [] → r.top ≡ Unwind → s ≡ steps_of t → c ≡ acceptedOf t → done ≡ listed t → Advance r done s c
-    finds : isEnd r.path r.top ≡ false → (step t r.path r.top r.accepted).1 ≡ true
+    at_end : r.path ≡ [] → r.top ≡ Unwind → s ≡ steps_of t → c ≡ accepted_of t → done ≡ listed t → Advance r done s c
+    finds : is_end r.path r.top ≡ false → (step t r.path r.top r.accepted).1 ≡ true
         → Point (step t r.path r.top r.accepted).0 (done ++ ((step t r.path r.top r.accepted).0.path ∷ [])) (suc s) c
         → Advance r done s c
-    moves : isEnd r.path r.top ≡ false → (step t r.path r.top r.accepted).1 ≡ false → (c' : ℕ)
+    moves : is_end r.path r.top ≡ false → (step t r.path r.top r.accepted).1 ≡ false → (c' : ℕ)
         → Point (step t r.path r.top r.accepted).0 done (suc s) c' → Advance r done s c
-    exceeds : isEnd r.path r.top ≡ false → (step t r.path r.top r.accepted).1 ≡ false
-        → isEnd (step t r.path r.top r.accepted).0.path (step t r.path r.top r.accepted).0.top ≡ false
+    exceeds : is_end r.path r.top ≡ false → (step t r.path r.top r.accepted).1 ≡ false
+        → is_end (step t r.path r.top r.accepted).0.path (step t r.path r.top r.accepted).0.top ≡ false
         → Exceeded (step t r.path r.top r.accepted).0 done (suc s) (suc c) → Advance r done s c
 
   abbrev at : List ℕ → Top → ℕ → Record
@@ -69,18 +69,18 @@ module _ (t : Task) where
 
   point : {path end : List ℕ} {top last : Top} {m n : ℕ} {o : List (List ℕ)} (k s c : ℕ) (done : List (List ℕ))
       → Search t [] Outer s c done path top → Search t path top m n o end last → end ≡ [] → last ≡ Unwind
-      → s + m ≡ steps_of t → c + n ≡ acceptedOf t → done ++ o ≡ listed t → k ≡ min c 4294967295 → above t.settings.limit k ≡ false
+      → s + m ≡ steps_of t → c + n ≡ accepted_of t → done ++ o ≡ listed t → k ≡ min c 4294967295 → above t.settings.limit k ≡ false
       → Point (at path top k) done s c
   point {m} {n} {o} k s c done made rest e f a b d g w =
       record {
-        rest-steps = m;
-        rest-pairs = n;
-        rest-maps = o;
+        rest_steps = m;
+        rest_pairs = n;
+        rest_maps = o;
         made = made;
         rest = rw (e, f) at rest;
-        steps-sum = a;
-        pairs-sum = b;
-        maps-sum = d;
+        steps_sum = a;
+        pairs_sum = b;
+        maps_sum = d;
         counted = g;
         within = w;
       }
@@ -100,7 +100,7 @@ module _ (t : Task) where
         → above t.settings.limit (raised k) ≡ true
         → {C : Type 0} → ((limit : ℕ) → t.settings.limit ≡ some limit → c ≡ limit → raised k ≡ suc c → C) → C
     exceeded-by c k e w o f =
-        option-case t.settings.limit
+        option_case t.settings.limit
         (λ h. never (above t.settings.limit (raised k)) o (rw h))
         (λ limit h.
         let below : ltb limit k ≡ false = rw h at w in
@@ -112,9 +112,9 @@ module _ (t : Task) where
 
     advance-at : {path end : List ℕ} {top last : Top} {m n : ℕ} {o : List (List ℕ)} (k s c : ℕ) (done : List (List ℕ))
         → Search t [] Outer s c done path top → Search t path top m n o end last → end ≡ [] → last ≡ Unwind
-        → s + m ≡ steps_of t → c + n ≡ acceptedOf t → done ++ o ≡ listed t → k ≡ min c 4294967295 → above t.settings.limit k ≡ false
+        → s + m ≡ steps_of t → c + n ≡ accepted_of t → done ++ o ≡ listed t → k ≡ min c 4294967295 → above t.settings.limit k ≡ false
         → Advance (at path top k) done s c
-    advance-at k s c done made nothing e f a b d g w = at-end e f (omega arith) (omega arith) (sym (append-nil done) ∙ d)
+    advance-at k s c done made nothing e f a b d g w = at_end e f (omega arith) (omega arith) (sym (append-nil done) ∙ d)
     advance-at k s c done made (opened {path} {c = x} h y) e f a b d g w =
         let step_is = step-candidate t path k x h in
         moves (outer_goes path) (rw step_is) c
@@ -141,17 +141,17 @@ module _ (t : Task) where
         (record {
           limit = limit;
           node = x;
-          rest-maps = o;
+          rest_maps = o;
           limited = l;
-          steps-before = s;
-          step-here = refl;
-          pair-here = ap suc same;
-          top-is = refl;
+          steps_before = s;
+          step_here = refl;
+          pair_here = ap suc same;
+          top_is = refl;
           before = rw same at made;
           made = retold t refl (omega arith) (append-nil done) (made_more made (taken h nothing));
-          steps-most = omega arith;
-          pairs-most = omega arith;
-          maps-sum = d;
+          steps_most = omega arith;
+          pairs_most = omega arith;
+          maps_sum = d;
           counted = up;
           over = v;
         }))))
@@ -173,26 +173,26 @@ module _ (t : Task) where
 
     advance : (r : Record) (done : List (List ℕ)) (s c : ℕ) → Point r done s c → Advance r done s c
     advance r done s c p =
-        advance-at r.accepted s c done p.made p.rest refl refl p.steps-sum p.pairs-sum p.maps-sum p.counted p.within
+        advance-at r.accepted s c done p.made p.rest refl refl p.steps_sum p.pairs_sum p.maps_sum p.counted p.within
 
     -- what one call comes to, from a point with s steps behind it and n of them in this call
     pub data Ran (b n : ℕ) (done : List (List ℕ)) (s : ℕ) (w : Went) : Type 0 where
-      ran-none : w.answer ≡ None → w.steps + s ≡ n + steps_of t → done ≡ listed t → w.record'.path ≡ [] → w.record'.top ≡ Unwind
-          → w.record'.accepted ≡ min (acceptedOf t) 4294967295 → above t.settings.limit w.record'.accepted ≡ false
+      ran_none : w.answer ≡ None → w.steps + s ≡ n + steps_of t → done ≡ listed t → w.record'.path ≡ [] → w.record'.top ≡ Unwind
+          → w.record'.accepted ≡ min (accepted_of t) 4294967295 → above t.settings.limit w.record'.accepted ≡ false
           → Ran b n done s w
-      ran-limit : w.answer ≡ Limit → (s' c : ℕ) → Exceeded w.record' done s' c → w.steps + s ≡ n + s' → Ran b n done s w
-      ran-found : w.answer ≡ Found → (s' c : ℕ) → Point w.record' (done ++ (w.record'.path ∷ [])) s' c → w.steps + s ≡ n + s'
+      ran_limit : w.answer ≡ Limit → (s' c : ℕ) → Exceeded w.record' done s' c → w.steps + s ≡ n + s' → Ran b n done s w
+      ran_found : w.answer ≡ Found → (s' c : ℕ) → Point w.record' (done ++ (w.record'.path ∷ [])) s' c → w.steps + s ≡ n + s'
           → n < w.steps → Ran b n done s w
-      ran-paused : w.answer ≡ Paused → (s' c : ℕ) → Point w.record' done s' c → w.steps + s ≡ n + s' → w.steps ≡ n + b
+      ran_paused : w.answer ≡ Paused → (s' c : ℕ) → Point w.record' done s' c → w.steps + s ≡ n + s' → w.steps ≡ n + b
           → Ran b n done s w
 
     ran-later : (b n : ℕ) (done : List (List ℕ)) (s : ℕ) (w : Went) → Ran b (suc n) done (suc s) w → Ran (suc b) n done s w
-    ran-later b n done s w (ran-none a e d p q c o) = ran-none a (omega arith) d p q c o
-    ran-later b n done s w (ran-limit a s' c x e) = ran-limit a s' c x (omega arith)
-    ran-later b n done s w (ran-found a s' c x e l) = ran-found a s' c x (omega arith) (omega arith)
-    ran-later b n done s w (ran-paused a s' c x e l) = ran-paused a s' c x (omega arith) (omega arith)
+    ran-later b n done s w (ran_none a e d p q c o) = ran_none a (omega arith) d p q c o
+    ran-later b n done s w (ran_limit a s' c x e) = ran_limit a s' c x (omega arith)
+    ran-later b n done s w (ran_found a s' c x e l) = ran_found a s' c x (omega arith) (omega arith)
+    ran-later b n done s w (ran_paused a s' c x e l) = ran_paused a s' c x (omega arith) (omega arith)
 
-    module _ (agreed : countsAgree t ≡ true) where
+    module _ (agreed : counts_agree t ≡ true) where
       -- a call at a point, where what a smaller budget comes to after a step is known
       abbrev Onward : ℕ → ℕ → Record → List (List ℕ) → ℕ → Type 0
       Onward b n r done s =
@@ -200,32 +200,32 @@ module _ (t : Task) where
           (run t b (suc n) (step t r.path r.top r.accepted).0)
 
       module _ (n : ℕ) (r : Record) (done : List (List ℕ)) (s c : ℕ) (p : Point r done s c) where
-        run_end : (b : ℕ) → r.path ≡ [] → r.top ≡ Unwind → s ≡ steps_of t → c ≡ acceptedOf t → done ≡ listed t
+        run_end : (b : ℕ) → r.path ≡ [] → r.top ≡ Unwind → s ≡ steps_of t → c ≡ accepted_of t → done ≡ listed t
             → Ran b n done s (run t b n r)
         run_end b e f x y z =
             rw (run-stops t b n r None (stops-ended t r agreed (rw (e, f))))
-            (ran-none refl (omega arith) z e f (p.counted ∙ ap (λ k. min k 4294967295) y) p.within)
+            (ran_none refl (omega arith) z e f (p.counted ∙ ap (λ k. min k 4294967295) y) p.within)
 
-        run-used : isEnd r.path r.top ≡ false → Ran 0 n done s (run t 0 n r)
-        run-used e = rw (run-pauses t n r (stops_nowhere t r agreed e p.within)) (ran-paused refl s c p (omega arith) (omega arith))
+        run-used : is_end r.path r.top ≡ false → Ran 0 n done s (run t 0 n r)
+        run-used e = rw (run-pauses t n r (stops_nowhere t r agreed e p.within)) (ran_paused refl s c p (omega arith) (omega arith))
 
         run_none : Advance r done s c → Ran 0 n done s (run t 0 n r)
-        run_none (at-end e f x y z) = run_end 0 e f x y z
+        run_none (at_end e f x y z) = run_end 0 e f x y z
         run_none (finds e f q) = run-used e
         run_none (moves e f c' q) = run-used e
         run_none (exceeds e f g q) = run-used e
 
         run-some : (b : ℕ) → Onward b n r done s → Advance r done s c → Ran (suc b) n done s (run t (suc b) n r)
-        run-some b on (at-end e f x y z) = run_end (suc b) e f x y z
+        run-some b on (at_end e f x y z) = run_end (suc b) e f x y z
         run-some b on (finds e f q) =
-            rw (run-finds t b n r (stops_nowhere t r agreed e p.within) f) (ran-found refl (suc s) c q (omega arith) (omega arith))
+            rw (run-finds t b n r (stops_nowhere t r agreed e p.within) f) (ran_found refl (suc s) c q (omega arith) (omega arith))
         run-some b on (moves e f c' q) =
             rw (run-goes-on t b n r (stops_nowhere t r agreed e p.within) f)
             (ran-later b n done s (run t b (suc n) (step t r.path r.top r.accepted).0) (on c' q))
         run-some b on (exceeds e f g q) =
             let next = (step t r.path r.top r.accepted).0 in
             rw (run-goes-on t b n r (stops_nowhere t r agreed e p.within) f, run-stops t b (suc n) next Limit (stops-limited t next agreed g q.over))
-            (ran-limit refl (suc s) (suc c) q (omega arith))
+            (ran_limit refl (suc s) (suc c) q (omega arith))
 
       pub run-from : (b n : ℕ) (r : Record) (done : List (List ℕ)) (s c : ℕ) → Point r done s c → Ran b n done s (run t b n r)
       run-from zero n r done s c p = run_none n r done s c p (advance r done s c p)

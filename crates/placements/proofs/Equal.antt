@@ -14,7 +14,7 @@ use Rattle.basics.proofs.Laws.{count-nil, count-cons}
 use Rattle.packed.specs.Graph.{Edge}
 use Rattle.graph.specs.Walk.{joins, leads}
 use Rattle.graph.specs.Within.{Within}
-use Rattle.graph.proofs.Walk.{Below, leadsTo, joins-leads, leads-below}
+use Rattle.graph.proofs.Walk.{Below, leads_to, joins-leads, leads-below}
 use Rattle.rules.proofs.Laws.{is_some}
 use Rattle.placements.proofs.Sums.{sum, sum-le, sum_same, sum-add, sum-zero, sum_one, sum-tight, Into, Apart, sum-into, sum-onto}
 
@@ -25,29 +25,29 @@ pairs directed n es = sum n (λ x. sum n (λ y. count (joins directed x y) es))
 abbrev pub loops : Bool → ℕ → List Edge → ℕ
 loops directed n es = sum n (λ x. count (joins directed x x) es)
 
-abbrev edgePairs : Bool → ℕ → Edge → ℕ
-edgePairs directed n e = sum n (λ x. sum n (λ y. cond (joins directed x y e) 1 0))
+abbrev edge_pairs : Bool → ℕ → Edge → ℕ
+edge_pairs directed n e = sum n (λ x. sum n (λ y. cond (joins directed x y e) 1 0))
 
-abbrev edgeLoops : Bool → ℕ → Edge → ℕ
-edgeLoops directed n e = sum n (λ x. cond (joins directed x x e) 1 0)
+abbrev edge_loops : Bool → ℕ → Edge → ℕ
+edge_loops directed n e = sum n (λ x. cond (joins directed x x e) 1 0)
 
 one-node : (n u : ℕ) → u < n → sum n (λ x. cond (eqb u x) 1 0) ≡ 1
 one-node n u h = sum_same n (λ x. cond (eqb u x) 1 0) (λ x. cond (eqb x u) 1 0) (λ x l. rw (eqb_swap u x)) ∙ sum_one n (λ x. 1) u h
 
-leads-sum : (n : ℕ) (o : Option ℕ) → Below n o → sum n (λ y. cond (leadsTo o y) 1 0) ≡ cond (is_some o) 1 0
+leads-sum : (n : ℕ) (o : Option ℕ) → Below n o → sum n (λ y. cond (leads_to o y) 1 0) ≡ cond (is_some o) 1 0
 leads-sum n none h = sum-zero n (λ y. 0) (λ i l. refl)
 leads-sum n (some w) h = one-node n w h
 
 edge-pairs : (directed : Bool) (n : ℕ) (e : Edge) → e.source < n → e.target < n
-    → edgePairs directed n e ≡ sum n (λ x. cond (is_some (leads directed x e)) 1 0)
+    → edge_pairs directed n e ≡ sum n (λ x. cond (is_some (leads directed x e)) 1 0)
 edge-pairs directed n e s t =
     sum_same n (λ x. sum n (λ y. cond (joins directed x y e) 1 0)) (λ x. cond (is_some (leads directed x e)) 1 0)
     (λ x l.
-    sum_same n (λ y. cond (joins directed x y e) 1 0) (λ y. cond (leadsTo (leads directed x e) y) 1 0)
+    sum_same n (λ y. cond (joins directed x y e) 1 0) (λ y. cond (leads_to (leads directed x e) y) 1 0)
     (λ y k. rw (joins-leads directed x y e))
     ∙ leads-sum n (leads directed x e) (leads-below directed n x e s t))
 
-directed-edge : (n : ℕ) (e : Edge) → e.source < n → e.target < n → edgePairs true n e ≡ 1
+directed-edge : (n : ℕ) (e : Edge) → e.source < n → e.target < n → edge_pairs true n e ≡ 1
 unfolding leads
 directed-edge n e s t =
     edge-pairs true n e s t
@@ -55,7 +55,7 @@ directed-edge n e s t =
     (λ x l. case (eqb e.source x) (λ k. rw k) (λ k. rw k))
     ∙ one-node n e.source s
 
-undirected-edge : (n : ℕ) (e : Edge) → e.source < n → e.target < n → edgePairs false n e + edgeLoops false n e ≡ 2
+undirected-edge : (n : ℕ) (e : Edge) → e.source < n → e.target < n → edge_pairs false n e + edge_loops false n e ≡ 2
 unfolding leads
 undirected-edge n e s t =
     let ends = sum_same n (λ x. cond (is_some (leads false x e)) 1 0 + cond (joins false x x e) 1 0)
@@ -81,7 +81,7 @@ module _ (directed : Bool) (n : ℕ) where
   loops-nil : loops directed n [] ≡ 0
   loops-nil = sum-zero n (λ x. count (joins directed x x) []) (λ x l. count-nil (joins directed x x))
 
-  pairs-cons : (e : Edge) (es : List Edge) → pairs directed n (e ∷ es) ≡ edgePairs directed n e + pairs directed n es
+  pairs-cons : (e : Edge) (es : List Edge) → pairs directed n (e ∷ es) ≡ edge_pairs directed n e + pairs directed n es
   pairs-cons e es =
       sum_same n (λ x. sum n (λ y. count (joins directed x y) (e ∷ es)))
       (λ x. sum n (λ y. cond (joins directed x y e) 1 0) + sum n (λ y. count (joins directed x y) es))
@@ -91,7 +91,7 @@ module _ (directed : Bool) (n : ℕ) where
       ∙ sum-add n (λ y. cond (joins directed x y e) 1 0) (λ y. count (joins directed x y) es))
       ∙ sum-add n (λ x. sum n (λ y. cond (joins directed x y e) 1 0)) (λ x. sum n (λ y. count (joins directed x y) es))
 
-  loops-cons : (e : Edge) (es : List Edge) → loops directed n (e ∷ es) ≡ edgeLoops directed n e + loops directed n es
+  loops-cons : (e : Edge) (es : List Edge) → loops directed n (e ∷ es) ≡ edge_loops directed n e + loops directed n es
   loops-cons e es =
       sum_same n (λ x. count (joins directed x x) (e ∷ es)) (λ x. cond (joins directed x x e) 1 0 + count (joins directed x x) es)
       (λ x l. count-cons (joins directed x x) e es)

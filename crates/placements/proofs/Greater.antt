@@ -41,10 +41,10 @@ no-more-edges : (directed : Bool) (m n : ℕ) (es fs : List Edge) → Within m e
 no-more-edges true m n es fs i j p l = omega (arith, p, directed-total m es i, directed-total n fs j)
 no-more-edges false m n es fs i j p l = omega (arith, p, l, undirected-total m es i, undirected-total n fs j)
 
-pub counts-implied : CountsImplied
-counts-implied s g₀ g₁ φ greater files p =
+pub counts_implied : CountsImplied
+counts_implied s g₀ g₁ φ greater files p =
     let least = rw files.same_kind at (between-least s g₀ g₁ φ p files) in
-    let edges = no-more-edges g₀.directed (nodes g₁) (nodes g₀) g₁.edges g₀.edges files.accepted₁.edges-within files.accepted₀.edges-within
+    let edges = no-more-edges g₀.directed (nodes g₁) (nodes g₀) g₁.edges g₀.edges files.accepted₁.edges_within files.accepted₀.edges_within
     (pairs-least g₀.directed (nodes g₁) (nodes g₀) φ g₁.edges g₀.edges p.within p.apart least)
     (loops-least g₀.directed (nodes g₁) (nodes g₀) φ g₁.edges g₀.edges p.within p.apart least) in
     rw greater (and_intro (le-leb (nodes g₁) (nodes g₀) (no-more-nodes (nodes g₁) (nodes g₀) φ p.within p.apart)) (le-leb (length g₁.edges) (length g₀.edges) edges))

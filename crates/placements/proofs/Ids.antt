@@ -14,23 +14,23 @@ use Rattle.basics.proofs.Tests.{never, and_intro, and_left, and_right, by-iff}
 use Rattle.basics.proofs.Laws.{from-none, from_suc, map-from-same}
 use Rattle.packed.specs.Graph.{Graph, nodes}
 use Rattle.settings.specs.Settings.{Settings}
-use Rattle.order.specs.Order.{nodeOrder}
+use Rattle.order.specs.Order.{node_order}
 use Rattle.order.proofs.Once.{order-holds-each-once}
 use Rattle.order.proofs.Renumbered.{order-keeps-nodes}
-use Rattle.rules.specs.Task.{Task, task_of, agree, graphsAgree}
+use Rattle.rules.specs.Task.{Task, task_of, agree, graphs_agree}
 use Rattle.rules.specs.Placement.{Placement}
-use Rattle.rules.specs.Search.{mapOf, continue, mapOfIds}
+use Rattle.rules.specs.Search.{map_of, continue, map_of_ids}
 use Rattle.placements.specs.Listed.{whole, listed}
-use Rattle.placements.specs.Claims.{OfOneKind, reverse, onPositions, imageIn, Places, MapShows, shows, idImage, showsIds, ListingOfIds, SymmetriesListed}
+use Rattle.placements.specs.Claims.{OfOneKind, reverse, on_positions, image_in, Places, MapShows, shows, id_image, shows_ids, ListingOfIds, SymmetriesListed}
 use Rattle.placements.proofs.Tests.{all-intro, all-elim}
 use Rattle.placements.proofs.Symmetries.{identity, chained, counts-chained, reversed}
 use Rattle.placements.proofs.Renumbered.{Alike, alike₀, alike₁, renumbered-placements}
 use Rattle.placements.proofs.Accepted.{every-map-places}
-use Rattle.placements.proofs.Once.{count-each, listed-once}
+use Rattle.placements.proofs.Once.{count-each, listed_once}
 use Rattle.placements.proofs.Listing.{all_placed, each_map}
 
 pub map-shows : (t : Task) → MapShows t
-unfolding mapOf
+unfolding map_of
 map-shows t path = refl
 
 -- f at a list's elements is f at what stands at its places
@@ -48,10 +48,10 @@ module _ (s : Settings) (g₀ g₁ : Graph) (files : OfOneKind g₀ g₁) where
   t = task_of s g₀ g₁
 
   abbrev order₀ : List ℕ
-  order₀ = nodeOrder s.vf2pp g₀
+  order₀ = node_order s.vf2pp g₀
 
   abbrev order₁ : List ℕ
-  order₁ = nodeOrder s.vf2pp g₁
+  order₁ = node_order s.vf2pp g₁
 
   ways₀ : Alike s g₀ t.graph₀ (λ v. place v order₀) (λ w. get_or order₀ w 0)
   unfolding task_of
@@ -65,63 +65,63 @@ module _ (s : Settings) (g₀ g₁ : Graph) (files : OfOneKind g₀ g₁) where
   unfolding task_of
   same_size = order-keeps-nodes s.vf2pp g₁
 
-  pairs-show : (path : List ℕ) → mapOfIds s g₀ g₁ path ≡ map (λ v. (idImage s g₀ g₁ path v, v)) order₁
+  pairs-show : (path : List ℕ) → map_of_ids s g₀ g₁ path ≡ map (λ v. (id_image s g₀ g₁ path v, v)) order₁
   pairs-show path =
-      let pair : ℕ → ℕ × ℕ = λ v. (idImage s g₀ g₁ path v, v) in
+      let pair : ℕ → ℕ × ℕ = λ v. (id_image s g₀ g₁ path v, v) in
       let long : length order₁ ≡ nodes t.graph₁ = (order-holds-each-once s.vf2pp g₁).0 ∙ sym same_size in
       rw (map-shows t path)
-      (map-map (λ p. (get_or order₀ p.0 0, get_or order₁ p.1 0)) (λ w. (imageIn t path w, w)) (from 0 (nodes t.graph₁))
-      ∙ map-from-same (λ w. (get_or order₀ (imageIn t path w) 0, get_or order₁ w 0)) (λ w. pair (get_or order₁ w 0)) (nodes t.graph₁)
-      (λ w l. ap (λ z. (get_or order₀ (imageIn t path z) 0, get_or order₁ w 0)) (sym (ways₁.to_back w l)))
+      (map-map (λ p. (get_or order₀ p.0 0, get_or order₁ p.1 0)) (λ w. (image_in t path w, w)) (from 0 (nodes t.graph₁))
+      ∙ map-from-same (λ w. (get_or order₀ (image_in t path w) 0, get_or order₁ w 0)) (λ w. pair (get_or order₁ w 0)) (nodes t.graph₁)
+      (λ w l. ap (λ z. (get_or order₀ (image_in t path z) 0, get_or order₁ w 0)) (sym (ways₁.to_back w l)))
       ∙ (rw long at (map-places pair order₁)))
 
   -- a path that shows ψ at positions shows φ at ids where ψ belongs to φ
-  module _ (φ : ℕ → ℕ) (p : Placement s g₀ g₁ φ) (path : List ℕ) (q : Places t (imageIn t path)) where
-    ids-where : shows t (onPositions s g₀ g₁ φ) path ≡ true → showsIds s g₀ g₁ φ path ≡ true
+  module _ (φ : ℕ → ℕ) (p : Placement s g₀ g₁ φ) (path : List ℕ) (q : Places t (image_in t path)) where
+    ids-where : shows t (on_positions s g₀ g₁ φ) path ≡ true → shows_ids s g₀ g₁ φ path ≡ true
     ids-where e =
-        all-intro (λ v. eqb (idImage s g₀ g₁ path v) (φ v)) (nodes g₁) 0
+        all-intro (λ v. eqb (id_image s g₀ g₁ path v) (φ v)) (nodes g₁) 0
         (λ v h l.
         let i : v < nodes g₁ = omega arith in
         let w = place v order₁ in
         let here =
-        eqb-true (imageIn t path w) (onPositions s g₀ g₁ φ w)
-        (all-elim (λ w. eqb (imageIn t path w) (onPositions s g₀ g₁ φ w)) (nodes t.graph₁) 0 e w (omega arith)
+        eqb-true (image_in t path w) (on_positions s g₀ g₁ φ w)
+        (all-elim (λ w. eqb (image_in t path w) (on_positions s g₀ g₁ φ w)) (nodes t.graph₁) 0 e w (omega arith)
         (omega (arith, ways₁.to_below v i))) in
-        eq-eqb (idImage s g₀ g₁ path v) (φ v)
+        eq-eqb (id_image s g₀ g₁ path v) (φ v)
         (ap (λ x. get_or order₀ x 0) (here ∙ ap (λ x. place (φ x) order₀) (ways₁.back_to v i)) ∙ ways₀.back_to (φ v) (p.within v i)))
 
-    where-ids : showsIds s g₀ g₁ φ path ≡ true → shows t (onPositions s g₀ g₁ φ) path ≡ true
+    where-ids : shows_ids s g₀ g₁ φ path ≡ true → shows t (on_positions s g₀ g₁ φ) path ≡ true
     where-ids e =
-        all-intro (λ w. eqb (imageIn t path w) (onPositions s g₀ g₁ φ w)) (nodes t.graph₁) 0
+        all-intro (λ w. eqb (image_in t path w) (on_positions s g₀ g₁ φ w)) (nodes t.graph₁) 0
         (λ w h l.
         let i : w < nodes t.graph₁ = omega arith in
         let v = get_or order₁ w 0 in
         let here =
-        eqb-true (idImage s g₀ g₁ path v) (φ v)
-        (all-elim (λ v. eqb (idImage s g₀ g₁ path v) (φ v)) (nodes g₁) 0 e v (omega arith) (omega (arith, ways₁.back_below w i))) in
-        let place_is : get_or order₀ (imageIn t path w) 0 ≡ φ v =
-        ap (λ x. get_or order₀ (imageIn t path x) 0) (sym (ways₁.to_back w i)) ∙ here in
-        eq-eqb (imageIn t path w) (onPositions s g₀ g₁ φ w)
-        (sym (ways₀.to_back (imageIn t path w) (q.within w i)) ∙ ap (λ x. place x order₀) place_is))
+        eqb-true (id_image s g₀ g₁ path v) (φ v)
+        (all-elim (λ v. eqb (id_image s g₀ g₁ path v) (φ v)) (nodes g₁) 0 e v (omega arith) (omega (arith, ways₁.back_below w i))) in
+        let place_is : get_or order₀ (image_in t path w) 0 ≡ φ v =
+        ap (λ x. get_or order₀ (image_in t path x) 0) (sym (ways₁.to_back w i)) ∙ here in
+        eq-eqb (image_in t path w) (on_positions s g₀ g₁ φ w)
+        (sym (ways₀.to_back (image_in t path w) (q.within w i)) ∙ ap (λ x. place x order₀) place_is))
 
-  module _ (agreed : graphsAgree s g₀ g₁ ≡ true) where
+  module _ (agreed : graphs_agree s g₀ g₁ ≡ true) where
     pub listing-of-ids : ListingOfIds s g₀ g₁
     unfolding task_of
     listing-of-ids =
         let k = renumbered-placements s g₀ g₁ files in
         record {
           pairs = pairs-show;
-          all-place =
-              each_map (λ path. (whole t path ≡ true) × Places t (imageIn t path)) (λ path. Placement s g₀ g₁ (idImage s g₀ g₁ path))
+          all_place =
+              each_map (λ path. (whole t path ≡ true) × Places t (image_in t path)) (λ path. Placement s g₀ g₁ (id_image s g₀ g₁ path))
               (listed t)
-              (λ path m. k.to-ids (imageIn t path) m.1) (all_placed t k.sound);
-          each-once = λ φ p.
-              count-each (λ path. (whole t path ≡ true) × Places t (imageIn t path)) (showsIds s g₀ g₁ φ) (shows t (onPositions s g₀ g₁ φ))
+              (λ path m. k.to_ids (image_in t path) m.1) (all_placed t k.sound);
+          each_once = λ φ p.
+              count-each (λ path. (whole t path ≡ true) × Places t (image_in t path)) (shows_ids s g₀ g₁ φ) (shows t (on_positions s g₀ g₁ φ))
               (listed t) (all_placed t k.sound)
-              (λ path m. by-iff (showsIds s g₀ g₁ φ path) (shows t (onPositions s g₀ g₁ φ) path) (where-ids φ p path m.1)
+              (λ path m. by-iff (shows_ids s g₀ g₁ φ path) (shows t (on_positions s g₀ g₁ φ) path) (where-ids φ p path m.1)
               (ids-where φ p path m.1))
-              ∙ listed-once t (onPositions s g₀ g₁ φ) k.sound (k.counts ∙ agreed) (k.to-positions φ p);
-          found-places = λ b r e f. k.to-ids (imageIn t (continue t b r).record'.path) (every-map-places t k.sound b r e f);
+              ∙ listed_once t (on_positions s g₀ g₁ φ) k.sound (k.counts ∙ agreed) (k.to_positions φ p);
+          found_places = λ b r e f. k.to_ids (image_in t (continue t b r).record'.path) (every-map-places t k.sound b r e f);
         }
 
 agree-own : (greater : Bool) (x : ℕ) → agree greater x x ≡ true
@@ -132,29 +132,29 @@ agree-back : (greater : Bool) (x y : ℕ) → greater ≡ false → agree greate
 agree-back true x y e h = never true refl e
 agree-back false x y e h = eq-eqb y x (sym (eqb-true x y h))
 
-pub counts-back : (s : Settings) (g₀ g₁ : Graph) → s.greater ≡ false → graphsAgree s g₀ g₁ ≡ true → graphsAgree s g₁ g₀ ≡ true
+pub counts-back : (s : Settings) (g₀ g₁ : Graph) → s.greater ≡ false → graphs_agree s g₀ g₁ ≡ true → graphs_agree s g₁ g₀ ≡ true
 counts-back s g₀ g₁ e h =
     let here = agree s.greater (nodes g₀) (nodes g₁) in
     let there = agree s.greater (length g₀.edges) (length g₁.edges) in
     and_intro (agree-back s.greater (nodes g₀) (nodes g₁) e (and_left here there h))
     (agree-back s.greater (length g₀.edges) (length g₁.edges) e (and_right here there h))
 
-pub counts-own : (s : Settings) (g : Graph) → graphsAgree s g g ≡ true
+pub counts-own : (s : Settings) (g : Graph) → graphs_agree s g g ≡ true
 counts-own s g = and_intro (agree-own s.greater (nodes g)) (agree-own s.greater (length g.edges))
 
 pub symmetries-listed : (s : Settings) → SymmetriesListed s
 symmetries-listed s =
     record {
-      identity-listed = λ g file.
+      identity_listed = λ g file.
           (listing-of-ids s g g (record { accepted₀ = file; accepted₁ = file; same_kind = refl })
           (counts-own s g)
-          ).each-once (λ a. a) (identity s g);
-      chain-listed = λ g₀ g₁ g₂ φ ψ f h a b p q.
+          ).each_once (λ a. a) (identity s g);
+      chain_listed = λ g₀ g₁ g₂ φ ψ f h a b p q.
           (listing-of-ids s g₀ g₂ (record { accepted₀ = f.accepted₀; accepted₁ = h.accepted₁; same_kind = h.same_kind ∙ f.same_kind })
           (counts-chained s g₀ g₁ g₂ a b)
-          ).each-once (λ a. φ (ψ a)) (chained s g₀ g₁ g₂ φ ψ p q);
-      reverse-listed = λ g₀ g₁ φ e f a p.
+          ).each_once (λ a. φ (ψ a)) (chained s g₀ g₁ g₂ φ ψ p q);
+      reverse_listed = λ g₀ g₁ φ e f a p.
           (listing-of-ids s g₁ g₀ (record { accepted₀ = f.accepted₁; accepted₁ = f.accepted₀; same_kind = sym f.same_kind })
           (counts-back s g₀ g₁ e a)
-          ).each-once (reverse (nodes g₁) φ) (reversed s g₀ g₁ φ e f a p).is-placement;
+          ).each_once (reverse (nodes g₁) φ) (reversed s g₀ g₁ φ e f a p).is_placement;
     }

@@ -13,8 +13,8 @@ use Rattle.basics.proofs.Laws.{count-nil, count-cons, count_same, count_map}
 use Rattle.packed.specs.Graph.{Edge, Graph}
 use Rattle.settings.specs.Settings.{Settings}
 use Rattle.graph.specs.Walk.{joins, between, turn, turned}
-use Rattle.order.specs.Claims.{labelledBetween}
-use Rattle.rules.specs.Placement.{ofLabel, edgesOf}
+use Rattle.order.specs.Claims.{labelled_between}
+use Rattle.rules.specs.Placement.{of_label, edges_of}
 use Rattle.placements.specs.Claims.{LabelsBelow}
 use Rattle.placements.proofs.Sums.{sum, sum_same, sum-add, sum-zero, sum_one}
 
@@ -36,30 +36,30 @@ passing-turned directed q es a b h =
     ∙ count_same (λ e. joins directed a b (turn e) && q (turn e)) (λ e. joins directed b a e && q e) es
     (λ e. rw (joins-turned directed a b e, h e))
 
-label-turned : (compared : Bool) (l : ℕ) (e : Edge) → ofLabel compared l (turn e) ≡ ofLabel compared l e
+label-turned : (compared : Bool) (l : ℕ) (e : Edge) → of_label compared l (turn e) ≡ of_label compared l e
 label-turned true l e = refl
 label-turned false l e = refl
 
 module _ (s : Settings) (g : Graph) (l a b : ℕ) where
-  pub edges-turned : edgesOf s (turned g) l a b ≡ edgesOf s g l b a
-  edges-turned = passing-turned g.directed (ofLabel s.edgeLabels l) g.edges a b (label-turned s.edgeLabels l)
+  pub edges-turned : edges_of s (turned g) l a b ≡ edges_of s g l b a
+  edges-turned = passing-turned g.directed (of_label s.edge_labels l) g.edges a b (label-turned s.edge_labels l)
 
-  pub edges-undirected : g.directed ≡ false → edgesOf s g l a b ≡ edgesOf s g l b a
+  pub edges-undirected : g.directed ≡ false → edges_of s g l a b ≡ edges_of s g l b a
   edges-undirected d =
       rw d
-      (count_same (λ e. joins false a b e && ofLabel s.edgeLabels l e) (λ e. joins false b a e && ofLabel s.edgeLabels l e) g.edges
+      (count_same (λ e. joins false a b e && of_label s.edge_labels l e) (λ e. joins false b a e && of_label s.edge_labels l e) g.edges
       (λ e. rw (joins-undirected a b e)))
 
   -- compared, the edges of the label; not compared, all
-  pub edges-compared : s.edgeLabels ≡ true → edgesOf s g l a b ≡ labelledBetween g l a b
+  pub edges-compared : s.edge_labels ≡ true → edges_of s g l a b ≡ labelled_between g l a b
   edges-compared c = rw c
 
-  pub edges-not-compared : s.edgeLabels ≡ false → edgesOf s g l a b ≡ between g a b
+  pub edges-not-compared : s.edge_labels ≡ false → edges_of s g l a b ≡ between g a b
   edges-not-compared c =
       rw c (count_same (λ e. joins g.directed a b e && true) (joins g.directed a b) g.edges
       (λ e. and-true (joins g.directed a b e)))
 
-pub labelled-turned : (g : Graph) (l a b : ℕ) → labelledBetween (turned g) l a b ≡ labelledBetween g l b a
+pub labelled-turned : (g : Graph) (l a b : ℕ) → labelled_between (turned g) l a b ≡ labelled_between g l b a
 labelled-turned g l a b = passing-turned g.directed (λ e. eqb e.label l) g.edges a b (λ e. refl)
 
 -- each edge has one label
@@ -89,7 +89,7 @@ passing-sum directed n a b (e ∷ es) h =
       passing-sum directed n a b es h.1,
     )
 
-pub labels-sum : (n : ℕ) (g : Graph) (a b : ℕ) → LabelsBelow n g.edges → sum n (λ l. labelledBetween g l a b) ≡ between g a b
+pub labels-sum : (n : ℕ) (g : Graph) (a b : ℕ) → LabelsBelow n g.edges → sum n (λ l. labelled_between g l a b) ≡ between g a b
 labels-sum n g a b h = passing-sum g.directed n a b g.edges h
 
 passing-none : (directed : Bool) (n l a b : ℕ) (es : List Edge) → LabelsBelow n es → n ≤ l
@@ -101,5 +101,5 @@ passing-none directed n l a b (e ∷ es) h k =
     omega (arith, labelled-cons directed l a b e es, passing-none directed n l a b es h.1 k)
 
 -- no edge has a label that is none
-pub labelled-none : (n : ℕ) (g : Graph) (l a b : ℕ) → LabelsBelow n g.edges → n ≤ l → labelledBetween g l a b ≡ 0
+pub labelled-none : (n : ℕ) (g : Graph) (l a b : ℕ) → LabelsBelow n g.edges → n ≤ l → labelled_between g l a b ≡ 0
 labelled-none n g l a b h k = passing-none g.directed n l a b g.edges h k

@@ -10,32 +10,32 @@ use lib.Dec.{ltb}
 use lib.ListN.{length}
 use borrow.Author.Tests.{ltb-true, ltb-false, lt-ltb, le-ltb}
 use Rattle.basics.proofs.Tests.{case, none-not-some}
-use Rattle.rules.specs.Task.{Task, countsAgree}
+use Rattle.rules.specs.Task.{Task, counts_agree}
 use Rattle.rules.specs.Search.{Top, Outer, Inner, Record, started, above, Answer, None, Limit}
-use Rattle.placements.specs.Listed.{whole, listed, steps_of, acceptedOf}
-use Rattle.placements.specs.Calls.{Called, calls, unlimited, after, acceptedIn, foundIn}
-use Rattle.placements.specs.Claims.{Sound, Places, imageIn, Each, AtLeastOne, LimitMost, NoMap, FromStart, BudgetsAlike, Listing, Limited}
+use Rattle.placements.specs.Listed.{whole, listed, steps_of, accepted_of}
+use Rattle.placements.specs.Calls.{Called, calls, unlimited, after, accepted_in, found_in}
+use Rattle.placements.specs.Claims.{Sound, Places, image_in, Each, AtLeastOne, LimitMost, NoMap, FromStart, BudgetsAlike, Listing, Limited}
 use Rattle.placements.proofs.Placed.{path-places}
 use Rattle.rules.proofs.Runs.{run-stops}
 use Rattle.placements.proofs.Searched.{Search, searched}
-use Rattle.placements.proofs.Bound.{steps-within}
-use Rattle.placements.proofs.Once.{Map, listed-maps, listed-once}
+use Rattle.placements.proofs.Bound.{steps_within}
+use Rattle.placements.proofs.Once.{Map, listed-maps, listed_once}
 use Rattle.placements.proofs.Unlimited.{search-unlimited}
 use Rattle.placements.proofs.Trace.{Comes, comes, accepted-more}
 use Rattle.placements.proofs.Continued.{Exceeded}
-use Rattle.placements.proofs.Called.{Ends, ends_open, ends-none, ends-limit, calls-end}
+use Rattle.placements.proofs.Called.{Ends, ends_open, ends_none, ends_limit, calls_end}
 
-pub no-map : (t : Task) → countsAgree t ≡ false → NoMap t
-no-map t e b r = run-stops t b 0 r None (rw e)
+pub no_map : (t : Task) → counts_agree t ≡ false → NoMap t
+no_map t e b r = run-stops t b 0 r None (rw e)
 
 pub each_map : {A : Type 0} (P Q : A → Type 0) (xs : List A) → ((x : A) → P x → Q x) → Each P xs → Each Q xs
 each_map P Q [] f e = tt
 each_map P Q (x ∷ xs) f e = (f x e.0, each_map P Q xs f e.1)
 
-pub all_placed : (t : Task) → Sound t → Each (λ path. (whole t path ≡ true) × Places t (imageIn t path)) (listed t)
+pub all_placed : (t : Task) → Sound t → Each (λ path. (whole t path ≡ true) × Places t (image_in t path)) (listed t)
 all_placed t sound =
-    each_map (Map t) (λ path. (whole t path ≡ true) × Places t (imageIn t path)) (listed t)
-    (λ path m. (m.map_whole, path-places t sound path m.map-accepted m.map_whole)) (listed-maps t)
+    each_map (Map t) (λ path. (whole t path ≡ true) × Places t (image_in t path)) (listed t)
+    (λ path m. (m.map_whole, path-places t sound path m.map_accepted m.map_whole)) (listed-maps t)
 
 none-limit : {C : Type 0} (t : Task) (o : Option (Answer)) → o ≡ some None → o ≡ some Limit → C
 none-limit t o e f = absurd (let z : ◌≡◌ {A = ℕ} 0 1 = cc in omega arith)
@@ -50,38 +50,38 @@ module _ (t : Task) where
       let x = traced p.made in
       let same : w.steps ≡ s = omega arith in
       record {
-        first-maps = (p.rest-maps, p.maps-sum);
-        found = rw same (sym x.found-is);
-        accepted = rw (same, x.accepted-is) p.counted;
-        path-there = λ o. rw same (sym x.path-is);
-        top-there = λ o. rw same (sym x.top-is);
-        steps-most = omega (arith, p.steps-sum);
-        steps-within = omega (arith, p.steps-sum, steps-within t);
+        first_maps = (p.rest_maps, p.maps_sum);
+        found = rw same (sym x.found_is);
+        accepted = rw (same, x.accepted_is) p.counted;
+        path_there = λ o. rw same (sym x.path_is);
+        top_there = λ o. rw same (sym x.top_is);
+        steps_most = omega (arith, p.steps_sum);
+        steps_within = omega (arith, p.steps_sum, steps_within t);
       }
-  from_start most budgets w (ends-none a d e p q k v) =
+  from_start most budgets w (ends_none a d e p q k v) =
       let x = traced (searched t) in
       let same : w.steps ≡ steps_of t = omega arith in
       record {
-        first-maps = ([], append-nil w.maps ∙ d);
-        found = rw same (d ∙ sym x.found-is);
-        accepted = rw (same, x.accepted-is) k;
-        path-there = λ o. rw same (p ∙ sym x.path-is);
-        top-there = λ o. rw same (q ∙ sym x.top-is);
-        steps-most = omega arith;
-        steps-within = omega (arith, steps-within t);
+        first_maps = ([], append-nil w.maps ∙ d);
+        found = rw same (d ∙ sym x.found_is);
+        accepted = rw (same, x.accepted_is) k;
+        path_there = λ o. rw same (p ∙ sym x.path_is);
+        top_there = λ o. rw same (q ∙ sym x.top_is);
+        steps_most = omega arith;
+        steps_within = omega (arith, steps_within t);
       }
-  from_start most budgets w (ends-limit a s c p e) =
+  from_start most budgets w (ends_limit a s c p e) =
       let x = traced p.made in
       let same : w.steps ≡ s = omega arith in
       let small = most p.limit p.limited in
       record {
-        first-maps = (p.rest-maps, p.maps-sum);
-        found = rw same (sym x.found-is);
-        accepted = rw (same, x.accepted-is) (omega (arith, p.counted, p.pair-here));
-        path-there = λ o. absurd (o a);
-        top-there = λ o. absurd (o a);
-        steps-most = omega (arith, p.steps-most);
-        steps-within = omega (arith, p.steps-most, steps-within t);
+        first_maps = (p.rest_maps, p.maps_sum);
+        found = rw same (sym x.found_is);
+        accepted = rw (same, x.accepted_is) (omega (arith, p.counted, p.pair_here));
+        path_there = λ o. absurd (o a);
+        top_there = λ o. absurd (o a);
+        steps_most = omega (arith, p.steps_most);
+        steps_within = omega (arith, p.steps_most, steps_within t);
       }
 
   -- without more accepted pairs than the limit
@@ -103,14 +103,14 @@ module _ (t : Task) where
   exceeded-once r q done others s z c d x y l =
       let u = unlimited t in
       let limit = same-limit x.limited y.limited in
-      let before = (traced x.before).accepted-is in
-      let there = (traced y.made).accepted-is in
+      let before = (traced x.before).accepted_is in
+      let there = (traced y.made).accepted_is in
       case (ltb z s)
       (λ e.
       let less = ltb-true z s e in
-      let gap : z + (x.steps-before - z) ≡ x.steps-before = omega (arith, x.step-here) in
-      let more = rw gap at (accepted-more u z (x.steps-before - z) started) in
-      absurd (omega (arith, y.pair-here)))
+      let gap : z + (x.steps_before - z) ≡ x.steps_before = omega (arith, x.step_here) in
+      let more = rw gap at (accepted-more u z (x.steps_before - z) started) in
+      absurd (omega (arith, y.pair_here)))
       (λ e. let most = ltb-false z s e in omega arith)
 
   alike-limits : (budgets others : List ℕ) (w v : Called t) (s z c d : ℕ) → w.ending ≡ some Limit → v.ending ≡ some Limit
@@ -120,141 +120,141 @@ module _ (t : Task) where
       (λ h. exceeded-once w.record' v.record' w.maps v.maps s z c d x y (let k = ltb-true z s h in omega arith))
       (λ h. sym (exceeded-once v.record' w.record' v.maps w.maps z s d c y x (ltb-false z s h))) in
       let limit = same-limit x.limited y.limited in
-      let before : x.steps-before ≡ y.steps-before = omega (arith, x.step-here, y.step-here) in
+      let before : x.steps_before ≡ y.steps_before = omega (arith, x.step_here, y.step_here) in
       let p = traced x.before in
       let q = traced y.before in
-      let top : Inner x.node ≡ Inner y.node = sym p.top-is ∙ ap (λ n. (after (unlimited t) n started).top) before ∙ q.top-is in
+      let top : Inner x.node ≡ Inner y.node = sym p.top_is ∙ ap (λ n. (after (unlimited t) n started).top) before ∙ q.top_is in
       same-called w v
-      (sym p.found-is ∙ ap (λ n. foundIn (unlimited t) n started) before ∙ q.found-is)
+      (sym p.found_is ∙ ap (λ n. found_in (unlimited t) n started) before ∙ q.found_is)
       (omega arith) (a ∙ sym b)
-      (sym p.path-is ∙ ap (λ n. (after (unlimited t) n started).path) before ∙ q.path-is)
-      (x.top-is ∙ top ∙ sym y.top-is)
-      (omega (arith, x.counted, y.counted, x.pair-here, y.pair-here))
+      (sym p.path_is ∙ ap (λ n. (after (unlimited t) n started).path) before ∙ q.path_is)
+      (x.top_is ∙ top ∙ sym y.top_is)
+      (omega (arith, x.counted, y.counted, x.pair_here, y.pair_here))
 
   alike : LimitMost t → (budgets others : List ℕ) (w v : Called t) → Ends t budgets [] 0 w → Ends t others [] 0 v
       → (a b : Answer) → w.ending ≡ some a → v.ending ≡ some b → w ≡ v
   alike most budgets others w v (ends_open o s c p e h) y a b i j = none-not-some (sym o ∙ i)
-  alike most budgets others w v (ends-none o d e p q k l) (ends_open x s c y z h) a b i j = none-not-some (sym x ∙ j)
-  alike most budgets others w v (ends-none o d e p q k l) (ends-none o' d' e' p' q' k' l') a b i j =
+  alike most budgets others w v (ends_none o d e p q k l) (ends_open x s c y z h) a b i j = none-not-some (sym x ∙ j)
+  alike most budgets others w v (ends_none o d e p q k l) (ends_none o' d' e' p' q' k' l') a b i j =
       same-called w v (d ∙ sym d') (omega arith) (o ∙ sym o') (p ∙ sym p') (q ∙ sym q') (k ∙ sym k')
-  alike most budgets others w v (ends-none o d e p q k l) (ends-limit x s c y z) a b i j =
+  alike most budgets others w v (ends_none o d e p q k l) (ends_limit x s c y z) a b i j =
       absurd (omega
-      (arith, within-limit y.limit (acceptedOf t) y.limited (most y.limit y.limited) (rw k at l), y.pairs-most, y.pair-here))
-  alike most budgets others w v (ends-limit x s c y z) (ends_open o s' c' p e h) a b i j = none-not-some (sym o ∙ j)
-  alike most budgets others w v (ends-limit x s c y z) (ends-none o d e p q k l) a b i j =
+      (arith, within-limit y.limit (accepted_of t) y.limited (most y.limit y.limited) (rw k at l), y.pairs_most, y.pair_here))
+  alike most budgets others w v (ends_limit x s c y z) (ends_open o s' c' p e h) a b i j = none-not-some (sym o ∙ j)
+  alike most budgets others w v (ends_limit x s c y z) (ends_none o d e p q k l) a b i j =
       absurd (omega
-      (arith, within-limit y.limit (acceptedOf t) y.limited (most y.limit y.limited) (rw k at l), y.pairs-most, y.pair-here))
-  alike most budgets others w v (ends-limit x s c y z) (ends-limit x' s' c' y' z') a b i j =
+      (arith, within-limit y.limit (accepted_of t) y.limited (most y.limit y.limited) (rw k at l), y.pairs_most, y.pair_here))
+  alike most budgets others w v (ends_limit x s c y z) (ends_limit x' s' c' y' z') a b i j =
       alike-limits budgets others w v s s' c c' x x' y y' z z'
 
   -- calls that have ended
   module _ (budgets : List ℕ) (w : Called t) where
     open-until : Ends t budgets [] 0 w → AtLeastOne budgets → steps_of t < length budgets → {C : Type 0} → (w.ending ≡ some None → C)
         → (w.ending ≡ some Limit → C) → C
-    open-until (ends_open o s c p e h) one more f g = absurd (omega (arith, h one, p.steps-sum))
-    open-until (ends-none o d e p q k l) one more f g = f o
-    open-until (ends-limit o s c p e) one more f g = g o
+    open-until (ends_open o s c p e h) one more f g = absurd (omega (arith, h one, p.steps_sum))
+    open-until (ends_none o d e p q k l) one more f g = f o
+    open-until (ends_limit o s c p e) one more f g = g o
 
     whole-none : Ends t budgets [] 0 w → w.ending ≡ some None → (w.maps ≡ listed t) × (w.steps ≡ steps_of t)
     whole-none (ends_open o s c p e h) i = none-not-some (sym o ∙ i)
-    whole-none (ends-none o d e p q k l) i = (d, omega arith)
-    whole-none (ends-limit o s c p e) i = none-limit t w.ending i o
+    whole-none (ends_none o d e p q k l) i = (d, omega arith)
+    whole-none (ends_limit o s c p e) i = none-limit t w.ending i o
 
     free-ending : t.settings.limit ≡ none → Ends t budgets [] 0 w → (a : Answer) → w.ending ≡ some a
         → (a ≡ None) × (w.maps ≡ listed t) × (w.steps ≡ steps_of t)
     free-ending free (ends_open o s c p e h) a i = none-not-some (sym o ∙ i)
-    free-ending free (ends-none o d e p q k l) a i = (cc, d, omega arith)
-    free-ending free (ends-limit o s c p e) a i = none-not-some (sym free ∙ p.limited)
+    free-ending free (ends_none o d e p q k l) a i = (cc, d, omega arith)
+    free-ending free (ends_limit o s c p e) a i = none-not-some (sym free ∙ p.limited)
 
     module _ (limit : ℕ) (limited : t.settings.limit ≡ some limit) (most : limit ≤ 4294967294) where
       cut-limit : Ends t budgets [] 0 w → w.ending ≡ some Limit
-          → (s : ℕ) × (w.steps ≡ suc s) × (acceptedIn (unlimited t) s started ≡ limit) × (acceptedIn (unlimited t) (suc s) started ≡ suc limit)
+          → (s : ℕ) × (w.steps ≡ suc s) × (accepted_in (unlimited t) s started ≡ limit) × (accepted_in (unlimited t) (suc s) started ≡ suc limit)
       cut-limit (ends_open o s c p e h) i = none-not-some (sym o ∙ i)
-      cut-limit (ends-none o d e p q k l) i = none-limit t w.ending o i
-      cut-limit (ends-limit o s c p e) i =
+      cut-limit (ends_none o d e p q k l) i = none-limit t w.ending o i
+      cut-limit (ends_limit o s c p e) i =
           let same = same-limit p.limited limited in
-          let here = p.step-here in (
-            p.steps-before,
+          let here = p.step_here in (
+            p.steps_before,
             omega arith,
-            (traced p.before).accepted-is ∙ same,
-            (rw here at (traced p.made).accepted-is) ∙ p.pair-here
+            (traced p.before).accepted_is ∙ same,
+            (rw here at (traced p.made).accepted_is) ∙ p.pair_here
                 ∙ ap suc same,
           )
 
-      limited-ending : Ends t budgets [] 0 w → (a : Answer) → w.ending ≡ some a → a ≡ cond (ltb limit (acceptedOf t)) Limit None
+      limited-ending : Ends t budgets [] 0 w → (a : Answer) → w.ending ≡ some a → a ≡ cond (ltb limit (accepted_of t)) Limit None
       limited-ending (ends_open o s c p e h) a i = none-not-some (sym o ∙ i)
-      limited-ending (ends-none o d e p q k l) a i =
+      limited-ending (ends_none o d e p q k l) a i =
           let z : a ≡ None = cc in
-          z ∙ sym (rw (le-ltb limit (acceptedOf t) (within-limit limit (acceptedOf t) limited most (rw k at l))))
-      limited-ending (ends-limit o s c p e) a i =
+          z ∙ sym (rw (le-ltb limit (accepted_of t) (within-limit limit (accepted_of t) limited most (rw k at l))))
+      limited-ending (ends_limit o s c p e) a i =
           let z : a ≡ Limit = cc in
           let same = same-limit p.limited limited in
-          z ∙ sym (rw (lt-ltb limit (acceptedOf t) (omega (arith, p.pairs-most, p.pair-here))))
+          z ∙ sym (rw (lt-ltb limit (accepted_of t) (omega (arith, p.pairs_most, p.pair_here))))
 
-      limited-accepted : Ends t budgets [] 0 w → w.record'.accepted ≡ acceptedIn (unlimited t) w.steps started
+      limited-accepted : Ends t budgets [] 0 w → w.record'.accepted ≡ accepted_in (unlimited t) w.steps started
       limited-accepted (ends_open o s c p e h) =
           let x = traced p.made in
           let same : w.steps ≡ s = omega arith in
           let small = within-limit limit c limited most (rw p.counted at p.within) in
-          rw (same, x.accepted-is) (omega (arith, p.counted))
-      limited-accepted (ends-none o d e p q k l) =
+          rw (same, x.accepted_is) (omega (arith, p.counted))
+      limited-accepted (ends_none o d e p q k l) =
           let x = traced (searched t) in
           let same : w.steps ≡ steps_of t = omega arith in
-          let small = within-limit limit (acceptedOf t) limited most (rw k at l) in
-          rw (same, x.accepted-is) (omega arith)
-      limited-accepted (ends-limit o s c p e) =
+          let small = within-limit limit (accepted_of t) limited most (rw k at l) in
+          rw (same, x.accepted_is) (omega arith)
+      limited-accepted (ends_limit o s c p e) =
           let x = traced p.made in
           let same : w.steps ≡ s = omega arith in
-          rw (same, x.accepted-is) p.counted
+          rw (same, x.accepted_is) p.counted
 
-module _ (t : Task) (agreed : countsAgree t ≡ true) (most : LimitMost t) where
+module _ (t : Task) (agreed : counts_agree t ≡ true) (most : LimitMost t) where
   pub first-calls : (budgets : List ℕ) → FromStart t (calls t budgets started)
-  first-calls budgets = from_start t most budgets (calls t budgets started) (calls-end t most agreed budgets)
+  first-calls budgets = from_start t most budgets (calls t budgets started) (calls_end t most agreed budgets)
 
-  pub budgets-alike : BudgetsAlike t
-  budgets-alike budgets others =
-      alike t most budgets others (calls t budgets started) (calls t others started) (calls-end t most agreed budgets)
-      (calls-end t most agreed others)
+  pub budgets_alike : BudgetsAlike t
+  budgets_alike budgets others =
+      alike t most budgets others (calls t budgets started) (calls t others started) (calls_end t most agreed budgets)
+      (calls_end t most agreed others)
 
   module _ (budgets : List ℕ) where
     abbrev called : Called t
     called = calls t budgets started
 
     ends : Ends t budgets [] 0 called
-    ends = calls-end t most agreed budgets
+    ends = calls_end t most agreed budgets
 
     ended : AtLeastOne budgets → steps_of t < length budgets → {C : Type 0} → ((a : Answer) → called.ending ≡ some a → C) → C
     ended one more f = open-until t budgets called ends one more (f None) (f Limit)
 
-pub listing : (t : Task) → Sound t → countsAgree t ≡ true → t.settings.limit ≡ none → Listing t
+pub listing : (t : Task) → Sound t → counts_agree t ≡ true → t.settings.limit ≡ none → Listing t
 listing t sound agreed free =
     let most : LimitMost t = λ limit e. none-not-some (sym free ∙ e) in
     let whole : (budgets : List ℕ) (a : Answer) → (calls t budgets started).ending ≡ some a
     → (a ≡ None) × ((calls t budgets started).maps ≡ listed t) × ((calls t budgets started).steps ≡ steps_of t) =
-    λ budgets. free-ending t budgets (calls t budgets started) free (calls-end t most agreed budgets) in
+    λ budgets. free-ending t budgets (calls t budgets started) free (calls_end t most agreed budgets) in
     record {
-      all-place = all_placed t sound;
-      each-once = λ φ p. listed-once t φ sound agreed p;
-      calls-first = first-calls t agreed most;
-      calls-whole = whole;
-      calls-end = λ budgets one more. ended t agreed most budgets one more (λ a e. e ∙ ap some (whole budgets a e).0);
-      budgets-alike = budgets-alike t agreed most;
-      steps-within = steps-within t;
+      all_place = all_placed t sound;
+      each_once = λ φ p. listed_once t φ sound agreed p;
+      calls_first = first-calls t agreed most;
+      calls_whole = whole;
+      calls_end = λ budgets one more. ended t agreed most budgets one more (λ a e. e ∙ ap some (whole budgets a e).0);
+      budgets_alike = budgets_alike t agreed most;
+      steps_within = steps_within t;
     }
 
-pub limited : (t : Task) (limit : ℕ) → countsAgree t ≡ true → t.settings.limit ≡ some limit → limit ≤ 4294967294 → Limited t limit
+pub limited : (t : Task) (limit : ℕ) → counts_agree t ≡ true → t.settings.limit ≡ some limit → limit ≤ 4294967294 → Limited t limit
 limited t limit agreed l small =
     let most : LimitMost t = λ other e. let same = same-limit t e l in omega arith in
-    let ends : (budgets : List ℕ) → Ends t budgets [] 0 (calls t budgets started) = calls-end t most agreed in
+    let ends : (budgets : List ℕ) → Ends t budgets [] 0 (calls t budgets started) = calls_end t most agreed in
     let comes : (budgets : List ℕ) (a : Answer) → (calls t budgets started).ending ≡ some a → a ≡ cond
-    (ltb limit (acceptedOf t)) Limit None =
+    (ltb limit (accepted_of t)) Limit None =
     λ budgets. limited-ending t budgets (calls t budgets started) limit l small (ends budgets) in
     record {
-      calls-first = first-calls t agreed most;
-      accepted-exact = λ budgets. limited-accepted t budgets (calls t budgets started) limit l small (ends budgets);
+      calls_first = first-calls t agreed most;
+      accepted_exact = λ budgets. limited-accepted t budgets (calls t budgets started) limit l small (ends budgets);
       ending = comes;
-      ended-none = λ budgets. whole-none t budgets (calls t budgets started) (ends budgets);
-      ended-limit = λ budgets. cut-limit t budgets (calls t budgets started) limit l small (ends budgets);
-      calls-end = λ budgets one more. ended t agreed most budgets one more (λ a e. e ∙ ap some (comes budgets a e));
-      budgets-alike = budgets-alike t agreed most;
+      ended_none = λ budgets. whole-none t budgets (calls t budgets started) (ends budgets);
+      ended_limit = λ budgets. cut-limit t budgets (calls t budgets started) limit l small (ends budgets);
+      calls_end = λ budgets one more. ended t agreed most budgets one more (λ a e. e ∙ ap some (comes budgets a e));
+      budgets_alike = budgets_alike t agreed most;
     }

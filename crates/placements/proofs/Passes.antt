@@ -15,9 +15,9 @@ use Rattle.basics.proofs.Laws.{count-all}
 use Rattle.packed.specs.Graph.{Graph, nodes}
 use Rattle.graph.specs.Walk.{between, walk, turned}
 use Rattle.graph.proofs.Walk.{walk-count}
-use Rattle.rules.specs.Task.{Task, agree, countsAgree, Pairs, exchanged, mapped, partner}
-use Rattle.rules.specs.Marks.{follows, firstMark, secondMark, OpenList, Out, In, Other, inList}
-use Rattle.rules.specs.Acceptable.{implies, isNew, linked, labelled, ahead, sameLabel, eachWay, feasible, acceptable}
+use Rattle.rules.specs.Task.{Task, agree, counts_agree, Pairs, exchanged, mapped, partner}
+use Rattle.rules.specs.Marks.{follows, first_mark, second_mark, OpenList, Out, In, Other, in_list}
+use Rattle.rules.specs.Acceptable.{implies, is_new, linked, labelled, ahead, same_label, each_way, feasible, acceptable}
 use Rattle.rules.specs.Placement.{Placement}
 use Rattle.rules.proofs.Laws.{exchanged-twice}
 use Rattle.placements.specs.Claims.{Sound}
@@ -137,18 +137,18 @@ module _ (t : Task) (φ : ℕ → ℕ) where
           (λ u v y z r q h. let h' : 0 < edges₀ (φ v) (φ z) = rw (r.0, q.0) at h in omega (arith, same v z r.1 q.1))
           ps o (φ x) x (refl, l) e
 
-      first_to : (x : ℕ) → x < nodes g₁ → firstMark g₁ us₁ x ≡ true → firstMark g₀ us₀ (φ x) ≡ true
+      first_to : (x : ℕ) → x < nodes g₁ → first_mark g₁ us₁ x ≡ true → first_mark g₀ us₀ (φ x) ≡ true
       first_to x l e = follows_to (between g₀) (between g₁) k.least x l e
 
-      first_back : Exact → (x : ℕ) → x < nodes g₁ → firstMark g₀ us₀ (φ x) ≡ true → firstMark g₁ us₁ x ≡ true
+      first_back : Exact → (x : ℕ) → x < nodes g₁ → first_mark g₀ us₀ (φ x) ≡ true → first_mark g₁ us₁ x ≡ true
       first_back exact x l e = follows-back (between g₀) (between g₁) exact x l e
 
-      second-to : (x : ℕ) → x < nodes g₁ → secondMark g₁ us₁ x ≡ true → secondMark g₀ us₀ (φ x) ≡ true
+      second-to : (x : ℕ) → x < nodes g₁ → second_mark g₁ us₁ x ≡ true → second_mark g₀ us₀ (φ x) ≡ true
       second-to x l e =
           and_intro (sym same_kind ∙ and_left g₁.directed _ e)
           (follows_to (λ u w. between g₀ w u) (λ u w. between g₁ w u) (λ u w i j. k.least w u j i) x l (and_right g₁.directed _ e))
 
-      second_back : Exact → (x : ℕ) → x < nodes g₁ → secondMark g₀ us₀ (φ x) ≡ true → secondMark g₁ us₁ x ≡ true
+      second_back : Exact → (x : ℕ) → x < nodes g₁ → second_mark g₀ us₀ (φ x) ≡ true → second_mark g₁ us₁ x ≡ true
       second_back exact x l e =
           and_intro (same_kind ∙ and_left g₀.directed _ e)
           (follows-back (λ u w. between g₀ w u) (λ u w. between g₁ w u) (λ u w i j. exact w u j i) x l (and_right g₀.directed _ e))
@@ -159,28 +159,28 @@ module _ (t : Task) (φ : ℕ → ℕ) where
       free_back : (x : ℕ) → x < nodes g₁ → not (member (φ x) us₀) ≡ true → not (member x us₁) ≡ true
       free_back x l e = not_carried (member (φ x) us₀) (member x us₁) (member-to x l) e
 
-      pub list-to : (list : OpenList) (x : ℕ) → x < nodes g₁ → inList g₁ us₁ list x ≡ true → inList g₀ us₀ list (φ x) ≡ true
+      pub list-to : (list : OpenList) (x : ℕ) → x < nodes g₁ → in_list g₁ us₁ list x ≡ true → in_list g₀ us₀ list (φ x) ≡ true
       list-to Out x l e = and_intro (free-to x l (and_left (not (member x us₁)) _ e)) (first_to x l (and_right (not (member x us₁)) _ e))
       list-to In x l e = and_intro (free-to x l (and_left (not (member x us₁)) _ e)) (second-to x l (and_right (not (member x us₁)) _ e))
       list-to Other x l e = free-to x l e
 
-      list_back : Exact → (list : OpenList) (x : ℕ) → x < nodes g₁ → inList g₀ us₀ list (φ x) ≡ true → inList g₁ us₁ list x ≡ true
+      list_back : Exact → (list : OpenList) (x : ℕ) → x < nodes g₁ → in_list g₀ us₀ list (φ x) ≡ true → in_list g₁ us₁ list x ≡ true
       list_back exact Out x l e =
           and_intro (free_back x l (and_left (not (member (φ x) us₀)) _ e)) (first_back exact x l (and_right (not (member (φ x) us₀)) _ e))
       list_back exact In x l e =
           and_intro (free_back x l (and_left (not (member (φ x) us₀)) _ e)) (second_back exact x l (and_right (not (member (φ x) us₀)) _ e))
       list_back exact Other x l e = free_back x l e
 
-      new-to : Exact → (x : ℕ) → x < nodes g₁ → isNew g₁ us₁ x ≡ true → isNew g₀ us₀ (φ x) ≡ true
+      new-to : Exact → (x : ℕ) → x < nodes g₁ → is_new g₁ us₁ x ≡ true → is_new g₀ us₀ (φ x) ≡ true
       new-to exact x l e =
-          and_intro (not_carried (firstMark g₁ us₁ x) (firstMark g₀ us₀ (φ x)) (first_back exact x l)
-          (and_left (not (firstMark g₁ us₁ x)) _ e))
-          (not_carried (secondMark g₁ us₁ x) (secondMark g₀ us₀ (φ x)) (second_back exact x l) (and_right (not (firstMark g₁ us₁ x)) _ e))
+          and_intro (not_carried (first_mark g₁ us₁ x) (first_mark g₀ us₀ (φ x)) (first_back exact x l)
+          (and_left (not (first_mark g₁ us₁ x)) _ e))
+          (not_carried (second_mark g₁ us₁ x) (second_mark g₀ us₀ (φ x)) (second_back exact x l) (and_right (not (first_mark g₁ us₁ x)) _ e))
 
-      new-back : (x : ℕ) → x < nodes g₁ → isNew g₀ us₀ (φ x) ≡ true → isNew g₁ us₁ x ≡ true
+      new-back : (x : ℕ) → x < nodes g₁ → is_new g₀ us₀ (φ x) ≡ true → is_new g₁ us₁ x ≡ true
       new-back x l e =
-          and_intro (not_carried (firstMark g₀ us₀ (φ x)) (firstMark g₁ us₁ x) (first_to x l) (and_left (not (firstMark g₀ us₀ (φ x))) _ e))
-          (not_carried (secondMark g₀ us₀ (φ x)) (secondMark g₁ us₁ x) (second-to x l) (and_right (not (firstMark g₀ us₀ (φ x))) _ e))
+          and_intro (not_carried (first_mark g₀ us₀ (φ x)) (first_mark g₁ us₁ x) (first_to x l) (and_left (not (first_mark g₀ us₀ (φ x))) _ e))
+          (not_carried (second_mark g₀ us₀ (φ x)) (second_mark g₁ us₁ x) (second-to x l) (and_right (not (first_mark g₀ us₀ (φ x))) _ e))
 
       -- the pair of b and its image
       module _ (b : ℕ) (l : b < nodes g₁) where
@@ -211,15 +211,15 @@ module _ (t : Task) (φ : ℕ → ℕ) where
           labelled-passes : labelled t ps a b h₀ h₁ ≡ true
           unfolding labelled
           labelled-passes =
-              implies-intro t.settings.edgeLabels _
+              implies-intro t.settings.edge_labels _
               (λ c. and_intro
               (implies-intro t.settings.induced _
               (λ d. matches-intro h₀ h₁ ps a b k'.within₀
               (λ x z y e f. (image₀ x y e).0 ∙ sym (image₀ z y f).0)
-              (λ x y m i e. let r = image₀ x y e in rw r.0 (le_of_eq (sym (k'.label-induced c d m b y (rw n₁ l) (rw n₁ r.1)))))))
+              (λ x y m i e. let r = image₀ x y e in rw r.0 (le_of_eq (sym (k'.label_induced c d m b y (rw n₁ l) (rw n₁ r.1)))))))
               (matches-intro h₁ h₀ (exchanged ps) b a k'.within₁
               (λ x z y e f. image-single y x z (image₁ x y e) (image₁ z y f))
-              (λ x y m i e. let r = image₁ x y e in rw r.0 (k'.label-least c m b x (rw n₁ l) i))))
+              (λ x y m i e. let r = image₁ x y e in rw r.0 (k'.label_least c m b x (rw n₁ l) i))))
 
           ahead-passes : ahead t ps a b h₀ h₁ ≡ true
           unfolding ahead
@@ -227,28 +227,28 @@ module _ (t : Task) (φ : ℕ → ℕ) where
               let same = walks-agree h₀ h₁ n₀ n₁ k' b l in
               and_intro
               (rw (count-all (walk h₀ a), count-all (walk h₁ b)) at (same (λ x. true) (λ x. true) (λ x i e. refl) (λ d x i e. refl)))
-              (and_intro (same (inList g₀ us₀ Out) (inList g₁ us₁ Out) (list-to Out) (λ d. list_back (k.equal d) Out))
-              (and_intro (same (inList g₀ us₀ In) (inList g₁ us₁ In) (list-to In) (λ d. list_back (k.equal d) In))
+              (and_intro (same (in_list g₀ us₀ Out) (in_list g₁ us₁ Out) (list-to Out) (λ d. list_back (k.equal d) Out))
+              (and_intro (same (in_list g₀ us₀ In) (in_list g₁ us₁ In) (list-to In) (λ d. list_back (k.equal d) In))
               (implies-intro t.settings.induced _
-              (λ d. same (isNew g₀ us₀) (isNew g₁ us₁) (new-to (k.induced d)) (λ c. new-back)))))
+              (λ d. same (is_new g₀ us₀) (is_new g₁ us₁) (new-to (k.induced d)) (λ c. new-back)))))
 
-        each_way : (test : Graph → Graph → Bool)
+        each_side : (test : Graph → Graph → Bool)
             → ((h₀ h₁ : Graph) → nodes h₀ ≡ nodes g₀ → nodes h₁ ≡ nodes g₁ → Keeps t.settings φ h₀ h₁ → test h₀ h₁ ≡ true)
-            → eachWay t ps a b test ≡ true
-        each_way test f =
+            → each_way t ps a b test ≡ true
+        each_side test f =
             and_intro (f g₀ g₁ refl refl k)
             (implies-intro g₀.directed _ (λ d. f (turned g₀) (turned g₁) refl refl (keeps-turned t.settings φ g₀ g₁ k)))
 
-        feasible-passes : (t.settings.nodeLabels ≡ true → get_or g₀.labels a 0 ≡ get_or g₁.labels b 0) → feasible t ps a b ≡ true
-        unfolding feasible sameLabel
+        feasible-passes : (t.settings.node_labels ≡ true → get_or g₀.labels a 0 ≡ get_or g₁.labels b 0) → feasible t ps a b ≡ true
+        unfolding feasible same_label
         feasible-passes label =
-            and_intro (each_way (linked t ps a b) linked-passes)
-            (and_intro (each_way (ahead t ps a b) ahead-passes)
-            (and_intro (implies-intro t.settings.nodeLabels _ (λ c. eq-eqb (get_or g₀.labels a 0) (get_or g₁.labels b 0) (label c)))
-            (each_way (labelled t ps a b) labelled-passes)))
+            and_intro (each_side (linked t ps a b) linked-passes)
+            (and_intro (each_side (ahead t ps a b) ahead-passes)
+            (and_intro (implies-intro t.settings.node_labels _ (λ c. eq-eqb (get_or g₀.labels a 0) (get_or g₁.labels b 0) (label c)))
+            (each_side (labelled t ps a b) labelled-passes)))
 
 -- a pair of a placement is acceptable after pairs of the placement
-module _ (t : Task) (φ : ℕ → ℕ) (sound : Sound t) (agreed : countsAgree t ≡ true) (p : Placement t.settings t.graph₀ t.graph₁ φ)
+module _ (t : Task) (φ : ℕ → ℕ) (sound : Sound t) (agreed : counts_agree t ≡ true) (p : Placement t.settings t.graph₀ t.graph₁ φ)
     (ps : Pairs) (o : Along (OnImage φ (nodes t.graph₁)) ps) where
   sizes : t.settings.greater ≡ false → nodes t.graph₀ ≡ nodes t.graph₁
   sizes = equal-nodes t.settings t.graph₀ t.graph₁ agreed
@@ -259,8 +259,8 @@ module _ (t : Task) (φ : ℕ → ℕ) (sound : Sound t) (agreed : countsAgree t
   pub placed_alike : (x : ℕ) → x < nodes t.graph₁ → member (φ x) (mapped ps) ≡ member x (mapped (exchanged ps))
   placed_alike = mapped-alike t φ p.within p.apart sizes sound.same_kind kept ps o
 
-  pub placed-in-list : (list : OpenList) (x : ℕ) → x < nodes t.graph₁ → inList t.graph₁ (mapped (exchanged ps)) list x ≡ true
-      → inList t.graph₀ (mapped ps) list (φ x) ≡ true
+  pub placed-in-list : (list : OpenList) (x : ℕ) → x < nodes t.graph₁ → in_list t.graph₁ (mapped (exchanged ps)) list x ≡ true
+      → in_list t.graph₀ (mapped ps) list (φ x) ≡ true
   placed-in-list = list-to t φ p.within p.apart sizes sound.same_kind kept ps o
 
   pub placed-acceptable : (b : ℕ) → b < nodes t.graph₁ → acceptable t ps (φ b) b ≡ true
@@ -268,11 +268,11 @@ module _ (t : Task) (φ : ℕ → ℕ) (sound : Sound t) (agreed : countsAgree t
   placed-acceptable b l =
       let more : Along (OnImage φ (nodes t.graph₁)) ((φ b, b) ∷ ps) = ((refl, l), o) in
       let all = nodes-agree t φ p.within p.apart sizes in
-      and_intro (feasible-passes t φ p.within p.apart sizes sound.same_kind kept ps o b l (λ c. p.labels-agree c b l))
+      and_intro (feasible-passes t φ p.within p.apart sizes sound.same_kind kept ps o b l (λ c. p.labels_agree c b l))
       (and_intro
-      (all (firstMark t.graph₀ (φ b ∷ mapped ps)) (firstMark t.graph₁ (b ∷ mapped (exchanged ps)))
+      (all (first_mark t.graph₀ (φ b ∷ mapped ps)) (first_mark t.graph₁ (b ∷ mapped (exchanged ps)))
       (first_to t φ p.within p.apart sizes sound.same_kind kept ((φ b, b) ∷ ps) more)
       (λ e. first_back t φ p.within p.apart sizes sound.same_kind kept ((φ b, b) ∷ ps) more (kept.equal e)))
-      (all (secondMark t.graph₀ (φ b ∷ mapped ps)) (secondMark t.graph₁ (b ∷ mapped (exchanged ps)))
+      (all (second_mark t.graph₀ (φ b ∷ mapped ps)) (second_mark t.graph₁ (b ∷ mapped (exchanged ps)))
       (second-to t φ p.within p.apart sizes sound.same_kind kept ((φ b, b) ∷ ps) more)
       (λ e. second_back t φ p.within p.apart sizes sound.same_kind kept ((φ b, b) ∷ ps) more (kept.equal e))))

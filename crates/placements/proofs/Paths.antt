@@ -8,12 +8,12 @@ use native.Mathlib.Omega.{arith}
 use lib.ListN.{length, length-append}
 use borrow.Author.Tests.{eq-eqb}
 use Rattle.basics.specs.Lists.{Distinct, from, member}
-use Rattle.basics.proofs.Tests.{option-case}
+use Rattle.basics.proofs.Tests.{option_case}
 use Rattle.basics.proofs.Laws.{keep-from-none, member-head, member-tail, member-append, member-keep}
 use Rattle.basics.proofs.Distinct.{distinct-length, distinct_from, distinct-keep}
 use Rattle.packed.specs.Graph.{nodes}
 use Rattle.rules.specs.Task.{Task, exchanged, mapped}
-use Rattle.rules.specs.Search.{pairsOf, candidateAt, offered, acceptedPath}
+use Rattle.rules.specs.Search.{pairs_of, candidate_at, offered, accepted_path}
 use Rattle.rules.proofs.Stays.{mapped-length, exchanged-length, offered-in-list, path-distinct, partners-distinct, depth-room}
 use Rattle.placements.specs.Listed.{tried, whole}
 use Rattle.placements.proofs.Candidates.{offered-never}
@@ -28,16 +28,16 @@ distinct_append n (u ∷ us) vs d e h = (
 )
 
 module _ (t : Task) where
-  pub accepted-nil : acceptedPath t [] ≡ true
-  unfolding acceptedPath
+  pub accepted-nil : accepted_path t [] ≡ true
+  unfolding accepted_path
   accepted-nil = refl
 
   -- depth at most both node counts
-  pub depth₀ : (path : List ℕ) → acceptedPath t path ≡ true → length path ≤ nodes t.graph₀
-  depth₀ path e = omega (arith, distinct-length (nodes t.graph₀) (mapped (pairsOf t path)) (path-distinct t path e), mapped-length t path)
+  pub depth₀ : (path : List ℕ) → accepted_path t path ≡ true → length path ≤ nodes t.graph₀
+  depth₀ path e = omega (arith, distinct-length (nodes t.graph₀) (mapped (pairs_of t path)) (path-distinct t path e), mapped-length t path)
 
-  pub depth₁ : (path : List ℕ) → acceptedPath t path ≡ true → length path ≤ nodes t.graph₁
-  depth₁ path e = omega (arith, distinct-length (nodes t.graph₁) (mapped (exchanged (pairsOf t path))) (partners-distinct t path e), exchanged-length t path)
+  pub depth₁ : (path : List ℕ) → accepted_path t path ≡ true → length path ≤ nodes t.graph₁
+  depth₁ path e = omega (arith, distinct-length (nodes t.graph₁) (mapped (exchanged (pairs_of t path))) (partners-distinct t path e), exchanged-length t path)
 
   -- what is tried
   pub tried-offered : (path : List ℕ) (x : ℕ) → member x (tried t path) ≡ true → offered t path x ≡ true
@@ -50,9 +50,9 @@ module _ (t : Task) where
       distinct-keep (nodes t.graph₀) (offered t path) (from 0 (nodes t.graph₀))
       (distinct_from (nodes t.graph₀) (nodes t.graph₀) 0 (omega arith))
 
-  pub tried-few : (path : List ℕ) → acceptedPath t path ≡ true → length (tried t path) + length path ≤ nodes t.graph₀
+  pub tried-few : (path : List ℕ) → accepted_path t path ≡ true → length (tried t path) + length path ≤ nodes t.graph₀
   tried-few path e =
-      let us = mapped (pairsOf t path) in
+      let us = mapped (pairs_of t path) in
       let apart : (x : ℕ) → member x (tried t path) ≡ true → member x us ≡ false =
       λ x m. (offered-in-list t path x (tried-offered path x m)).unmapped in
       omega (
@@ -63,14 +63,14 @@ module _ (t : Task) where
         mapped-length t path,
       )
 
-  pub tried-none : (path : List ℕ) → candidateAt t path ≡ none → tried t path ≡ []
+  pub tried-none : (path : List ℕ) → candidate_at t path ≡ none → tried t path ≡ []
   unfolding tried
   tried-none path e = keep-from-none (offered t path) (nodes t.graph₀) 0 (λ x l. offered-never t path x e)
 
   -- a whole path has no candidate
-  pub no-candidate : (path : List ℕ) → acceptedPath t path ≡ true → nodes t.graph₁ ≤ length path → candidateAt t path ≡ none
+  pub no-candidate : (path : List ℕ) → accepted_path t path ≡ true → nodes t.graph₁ ≤ length path → candidate_at t path ≡ none
   no-candidate path e l =
-      option-case (candidateAt t path) (λ h. h) (λ c h. absurd (omega (arith, depth-room t path c e h)))
+      option_case (candidate_at t path) (λ h. h) (λ c h. absurd (omega (arith, depth-room t path c e h)))
 
-  pub whole-at : (path : List ℕ) → acceptedPath t path ≡ true → nodes t.graph₁ ≤ length path → whole t path ≡ true
+  pub whole-at : (path : List ℕ) → accepted_path t path ≡ true → nodes t.graph₁ ≤ length path → whole t path ≡ true
   whole-at path e l = eq-eqb (length path) (nodes t.graph₁) (omega (arith, depth₁ path e))

@@ -10,7 +10,7 @@ use lib.Dec.{eqb}
 use lib.ListN.{length, get_or}
 use borrow.Author.Tests.{eqb-true, eq-eqb}
 use Rattle.basics.specs.Lists.{Distinct, member}
-use Rattle.basics.proofs.Tests.{case, option-case, none-not-some, never, and_left, and_right, false-by}
+use Rattle.basics.proofs.Tests.{case, option_case, none-not-some, never, and_left, and_right, false-by}
 use Rattle.basics.proofs.Distinct.{distinct-all, distinct-below}
 use Rattle.packed.specs.Graph.{Graph, nodes}
 use Rattle.settings.specs.Settings.{Settings}
@@ -18,13 +18,13 @@ use Rattle.graph.specs.Walk.{between, turned}
 use Rattle.graph.specs.Within.{Within}
 use Rattle.graph.proofs.Walk.{within-turned}
 use Rattle.rules.specs.Task.{Task, Pairs, exchanged, mapped, partner}
-use Rattle.rules.specs.Acceptable.{implies, covers, matches, linked, labelled, ahead, sameLabel, eachWay, feasible, markedNodes, acceptable}
-use Rattle.rules.specs.Marks.{firstMark, secondMark}
-use Rattle.rules.specs.Placement.{edgesOf}
-use Rattle.rules.specs.Search.{pairsOf, candidateAt, node_of, accepts, acceptedPath}
+use Rattle.rules.specs.Acceptable.{implies, covers, matches, linked, labelled, ahead, same_label, each_way, feasible, marked_nodes, acceptable}
+use Rattle.rules.specs.Marks.{first_mark, second_mark}
+use Rattle.rules.specs.Placement.{edges_of}
+use Rattle.rules.specs.Search.{pairs_of, candidate_at, node_of, accepts, accepted_path}
 use Rattle.rules.proofs.Laws.{exchanged-twice, partner-nil, partner-own, partner-other, partner-member}
 use Rattle.placements.specs.Listed.{whole}
-use Rattle.placements.specs.Claims.{Sound, imageIn, Places}
+use Rattle.placements.specs.Claims.{Sound, image_in, Places}
 use Rattle.placements.proofs.Labels.{edges-turned, edges-undirected, edges-compared, edges-not-compared}
 use Rattle.placements.proofs.Tests.{covers-elim, matches-elim}
 use Rattle.placements.proofs.Along.{Along, partner-along}
@@ -41,7 +41,7 @@ partner-mapped ps x y e = partner-member ps x ∙ rw e
 
 mapped-partner : {C : Type 0} (ps : Pairs) (x : ℕ) → member x (mapped ps) ≡ true → ((y : ℕ) → partner ps x ≡ some y → C) → C
 mapped-partner ps x e f =
-    option-case (partner ps x)
+    option_case (partner ps x)
     (λ h. let m : false ≡ true = rw h at (sym (partner-member ps x) ∙ e) in never false m refl)
     f
 
@@ -62,22 +62,22 @@ partner-back n (p ∷ ps) d x y e =
 
 -- the tests of one direction, of this graph's edges against the other's, by the settings
 edges-least : (s : Settings) (g h : Graph) (ps : Pairs) (v w : ℕ) → Within (nodes g) g.edges
-    → covers (nodes g) (between g) (between h) (partner ((v, w) ∷ ps)) v w ≡ true → (s.edgeLabels ≡ true → matches g h ps v w ≡ true)
-    → (l x y : ℕ) → x < nodes g → partner ((v, w) ∷ ps) x ≡ some y → edgesOf s g l v x ≤ edgesOf s h l w y
+    → covers (nodes g) (between g) (between h) (partner ((v, w) ∷ ps)) v w ≡ true → (s.edge_labels ≡ true → matches g h ps v w ≡ true)
+    → (l x y : ℕ) → x < nodes g → partner ((v, w) ∷ ps) x ≡ some y → edges_of s g l v x ≤ edges_of s h l w y
 edges-least s g h ps v w within c m l x y i e =
-    case s.edgeLabels
+    case s.edge_labels
     (λ k. rw (edges-compared s g l v x k, edges-compared s h l w y k) (matches-elim g h ps v w within (m k) x y l i e))
     (λ k. rw (edges-not-compared s g l v x k, edges-not-compared s h l w y k)
     (covers-elim (nodes g) (between g) (between h) (partner ((v, w) ∷ ps)) v w c x y i e))
 
 -- this graph's edges among nodes with partners are no more than the other's among the partners
 abbrev Carries : Settings → Graph → Graph → Pairs → Type 0
-Carries s g h ps = (l x y p q : ℕ) → partner ps x ≡ some p → partner ps y ≡ some q → edgesOf s g l x y ≤ edgesOf s h l p q
+Carries s g h ps = (l x y p q : ℕ) → partner ps x ≡ some p → partner ps y ≡ some q → edges_of s g l x y ≤ edges_of s h l p q
 
 -- the edges from the new node, and those into it
 pub record New (s : Settings) (g h : Graph) (ps : Pairs) (v w : ℕ) : Type 0 where
-  pub from-it : (l x y : ℕ) → x < nodes g → partner ((v, w) ∷ ps) x ≡ some y → edgesOf s g l v x ≤ edgesOf s h l w y
-  pub into-it : (l x y : ℕ) → x < nodes g → partner ((v, w) ∷ ps) x ≡ some y → edgesOf s g l x v ≤ edgesOf s h l y w
+  pub from_it : (l x y : ℕ) → x < nodes g → partner ((v, w) ∷ ps) x ≡ some y → edges_of s g l v x ≤ edges_of s h l w y
+  pub into_it : (l x y : ℕ) → x < nodes g → partner ((v, w) ∷ ps) x ≡ some y → edges_of s g l x v ≤ edges_of s h l y w
 
 carries-more : (s : Settings) (g h : Graph) (ps : Pairs) (v w : ℕ) → Distinct (nodes g) (mapped ((v, w) ∷ ps)) → New s g h ps v w
     → Carries s g h ps → Carries s g h ((v, w) ∷ ps)
@@ -87,12 +87,12 @@ carries-more s g h ps v w d new old l x y p q e f =
     case (eqb x v)
     (λ a.
     let own : w ≡ p = cc (partner-own v w ps x a) in
-    rw (eqb-true x v a, ← own) (new.from-it l y q (below y q f) f))
+    rw (eqb-true x v a, ← own) (new.from_it l y q (below y q f) f))
     (λ a.
     case (eqb y v)
     (λ b.
     let own : w ≡ q = cc (partner-own v w ps y b) in
-    rw (eqb-true y v b, ← own) (new.into-it l x p (below x p e) e))
+    rw (eqb-true y v b, ← own) (new.into_it l x p (below x p e) e))
     (λ b. old l x y p q (sym (partner-other v w ps x a) ∙ e) (sym (partner-other v w ps y b) ∙ f)))
 
 module _ (t : Task) (sound : Sound t) where
@@ -106,45 +106,45 @@ module _ (t : Task) (sound : Sound t) where
   g₁ = t.graph₁
 
   module _ (ps : Pairs) (a b : ℕ) (accepted : acceptable t ps a b ≡ true) where
-    is-feasible : (eachWay t ps a b (linked t ps a b) && (eachWay t ps a b (ahead t ps a b) && (sameLabel t ps a b && eachWay t ps a b (labelled t ps a b)))) ≡ true
+    is-feasible : (each_way t ps a b (linked t ps a b) && (each_way t ps a b (ahead t ps a b) && (same_label t ps a b && each_way t ps a b (labelled t ps a b)))) ≡ true
     unfolding acceptable feasible
-    is-feasible = and_left (feasible t ps a b) (markedNodes t ps a b firstMark && markedNodes t ps a b secondMark) accepted
+    is-feasible = and_left (feasible t ps a b) (marked_nodes t ps a b first_mark && marked_nodes t ps a b second_mark) accepted
 
-    linked-ways : eachWay t ps a b (linked t ps a b) ≡ true
-    linked-ways = and_left (eachWay t ps a b (linked t ps a b)) _ is-feasible
+    linked-ways : each_way t ps a b (linked t ps a b) ≡ true
+    linked-ways = and_left (each_way t ps a b (linked t ps a b)) _ is-feasible
 
-    rest-feasible : (sameLabel t ps a b && eachWay t ps a b (labelled t ps a b)) ≡ true
-    rest-feasible = and_right (eachWay t ps a b (ahead t ps a b)) _ (and_right (eachWay t ps a b (linked t ps a b)) _ is-feasible)
+    rest-feasible : (same_label t ps a b && each_way t ps a b (labelled t ps a b)) ≡ true
+    rest-feasible = and_right (each_way t ps a b (ahead t ps a b)) _ (and_right (each_way t ps a b (linked t ps a b)) _ is-feasible)
 
-    labelled-ways : eachWay t ps a b (labelled t ps a b) ≡ true
-    labelled-ways = and_right (sameLabel t ps a b) (eachWay t ps a b (labelled t ps a b)) rest-feasible
+    labelled-ways : each_way t ps a b (labelled t ps a b) ≡ true
+    labelled-ways = and_right (same_label t ps a b) (each_way t ps a b (labelled t ps a b)) rest-feasible
 
-    labels-alike : s.nodeLabels ≡ true → get_or g₀.labels a 0 ≡ get_or g₁.labels b 0
-    unfolding sameLabel
+    labels-alike : s.node_labels ≡ true → get_or g₀.labels a 0 ≡ get_or g₁.labels b 0
+    unfolding same_label
     labels-alike c =
         eqb-true (get_or g₀.labels a 0) (get_or g₁.labels b 0)
-        (implies-elim s.nodeLabels (eqb (get_or g₀.labels a 0) (get_or g₁.labels b 0))
-        (and_left (sameLabel t ps a b) (eachWay t ps a b (labelled t ps a b)) rest-feasible) c)
+        (implies-elim s.node_labels (eqb (get_or g₀.labels a 0) (get_or g₁.labels b 0))
+        (and_left (same_label t ps a b) (each_way t ps a b (labelled t ps a b)) rest-feasible) c)
 
     -- one direction: graph 1 against graph 0, and graph 0 against graph 1 if induced
     module _ (h₀ h₁ : Graph) (within₀ : Within (nodes h₀) h₀.edges) (within₁ : Within (nodes h₁) h₁.edges)
         (is-linked : linked t ps a b h₀ h₁ ≡ true) (is-labelled : labelled t ps a b h₀ h₁ ≡ true) where
-      sought-least : (l x y : ℕ) → x < nodes h₁ → partner ((b, a) ∷ exchanged ps) x ≡ some y → edgesOf s h₁ l b x ≤ edgesOf s h₀ l a y
+      sought-least : (l x y : ℕ) → x < nodes h₁ → partner ((b, a) ∷ exchanged ps) x ≡ some y → edges_of s h₁ l b x ≤ edges_of s h₀ l a y
       unfolding linked labelled
       sought-least =
           edges-least s h₁ h₀ (exchanged ps) b a within₁
           (and_left (covers (nodes h₁) (between h₁) (between h₀) (partner ((b, a) ∷ exchanged ps)) b a) _ is-linked)
-          (λ c. and_right (implies s.induced (matches h₀ h₁ ps a b)) _ (implies-elim s.edgeLabels _ is-labelled c))
+          (λ c. and_right (implies s.induced (matches h₀ h₁ ps a b)) _ (implies-elim s.edge_labels _ is-labelled c))
 
       searched-least : s.induced ≡ true → (l x y : ℕ) → x < nodes h₀ → partner ((a, b) ∷ ps) x ≡ some y
-          → edgesOf s h₀ l a x ≤ edgesOf s h₁ l b y
+          → edges_of s h₀ l a x ≤ edges_of s h₁ l b y
       unfolding linked labelled
       searched-least d =
           edges-least s h₀ h₁ ps a b within₀
           (implies-elim s.induced _
           (and_right (covers (nodes h₁) (between h₁) (between h₀) (partner ((b, a) ∷ exchanged ps)) b a) _ is-linked) d)
           (λ c. implies-elim s.induced _
-          (and_left (implies s.induced (matches h₀ h₁ ps a b)) _ (implies-elim s.edgeLabels _ is-labelled c)) d)
+          (and_left (implies s.induced (matches h₀ h₁ ps a b)) _ (implies-elim s.edge_labels _ is-labelled c)) d)
 
     linked-out : linked t ps a b g₀ g₁ ≡ true
     linked-out = and_left (linked t ps a b g₀ g₁) _ linked-ways
@@ -159,17 +159,17 @@ module _ (t : Task) (sound : Sound t) where
     labelled-in d = implies-elim g₀.directed _ (and_right (labelled t ps a b g₀ g₁) _ labelled-ways) d
 
     turned₀ : Within (nodes g₀) (turned g₀).edges
-    turned₀ = within-turned (nodes g₀) g₀.edges sound.accepted₀.edges-within
+    turned₀ = within-turned (nodes g₀) g₀.edges sound.accepted₀.edges_within
 
     turned₁ : Within (nodes g₁) (turned g₁).edges
-    turned₁ = within-turned (nodes g₁) g₁.edges sound.accepted₁.edges-within
+    turned₁ = within-turned (nodes g₁) g₁.edges sound.accepted₁.edges_within
 
     new₁ : New s g₁ g₀ (exchanged ps) b a
     new₁ =
-        let out = sought-least g₀ g₁ sound.accepted₀.edges-within sound.accepted₁.edges-within linked-out labelled_out in
+        let out = sought-least g₀ g₁ sound.accepted₀.edges_within sound.accepted₁.edges_within linked-out labelled_out in
         record {
-          from-it = out;
-          into-it = λ l x y i e. case g₀.directed
+          from_it = out;
+          into_it = λ l x y i e. case g₀.directed
               (λ d. rw (edges-turned s g₁ l b x, edges-turned s g₀ l a y) at
               (sought-least (turned g₀) (turned g₁) turned₀ turned₁ (linked-in d) (labelled-in d) l x y i e))
               (λ d. rw (edges-undirected s g₁ l x b (sound.same_kind ∙ d), edges-undirected s g₀ l y a d) (out l x y i e));
@@ -177,75 +177,75 @@ module _ (t : Task) (sound : Sound t) where
 
     new₀ : s.induced ≡ true → New s g₀ g₁ ps a b
     new₀ k =
-        let out = searched-least g₀ g₁ sound.accepted₀.edges-within sound.accepted₁.edges-within linked-out labelled_out k in
+        let out = searched-least g₀ g₁ sound.accepted₀.edges_within sound.accepted₁.edges_within linked-out labelled_out k in
         record {
-          from-it = out;
-          into-it = λ l x y i e. case g₀.directed
+          from_it = out;
+          into_it = λ l x y i e. case g₀.directed
               (λ d. rw (edges-turned s g₀ l a x, edges-turned s g₁ l b y) at
               (searched-least (turned g₀) (turned g₁) turned₀ turned₁ (linked-in d) (labelled-in d) k l x y i e))
               (λ d. rw (edges-undirected s g₀ l x a d, edges-undirected s g₁ l y b (sound.same_kind ∙ d)) (out l x y i e));
         }
 
   -- along an accepted path
-  accepts-is : (x : ℕ) (path : List ℕ) → acceptedPath t (x ∷ path) ≡ true
-      → acceptable t (pairsOf t path) x (node_of (candidateAt t path)) ≡ true
+  accepts-is : (x : ℕ) (path : List ℕ) → accepted_path t (x ∷ path) ≡ true
+      → acceptable t (pairs_of t path) x (node_of (candidate_at t path)) ≡ true
   unfolding accepts
   accepts-is x path e = (path-last t x path e).2
 
   none-carries : (g h : Graph) → Carries s g h []
   none-carries g h l x y p q e f = none-not-some (sym (partner-nil x) ∙ e)
 
-  carries₁ : (path : List ℕ) → acceptedPath t path ≡ true → Carries s g₁ g₀ (exchanged (pairsOf t path))
+  carries₁ : (path : List ℕ) → accepted_path t path ≡ true → Carries s g₁ g₀ (exchanged (pairs_of t path))
   carries₁ [] e = rw (pairs-nil t) (none-carries g₁ g₀)
   carries₁ (x ∷ path) e =
       rw (pairs-cons t x path)
-      (carries-more s g₁ g₀ (exchanged (pairsOf t path)) (node_of (candidateAt t path)) x
+      (carries-more s g₁ g₀ (exchanged (pairs_of t path)) (node_of (candidate_at t path)) x
       (rw (pairs-cons t x path) at (partners-distinct t (x ∷ path) e))
-      (new₁ (pairsOf t path) x (node_of (candidateAt t path)) (accepts-is x path e)) (carries₁ path (path-last t x path e).0))
+      (new₁ (pairs_of t path) x (node_of (candidate_at t path)) (accepts-is x path e)) (carries₁ path (path-last t x path e).0))
 
-  carries₀ : s.induced ≡ true → (path : List ℕ) → acceptedPath t path ≡ true → Carries s g₀ g₁ (pairsOf t path)
+  carries₀ : s.induced ≡ true → (path : List ℕ) → accepted_path t path ≡ true → Carries s g₀ g₁ (pairs_of t path)
   carries₀ k [] e = rw (pairs-nil t) (none-carries g₀ g₁)
   carries₀ k (x ∷ path) e =
       rw (pairs-cons t x path)
-      (carries-more s g₀ g₁ (pairsOf t path) x (node_of (candidateAt t path)) (rw (pairs-cons t x path) at (path-distinct t (x ∷ path) e))
-      (new₀ (pairsOf t path) x (node_of (candidateAt t path)) (accepts-is x path e) k) (carries₀ k path (path-last t x path e).0))
+      (carries-more s g₀ g₁ (pairs_of t path) x (node_of (candidate_at t path)) (rw (pairs-cons t x path) at (path-distinct t (x ∷ path) e))
+      (new₀ (pairs_of t path) x (node_of (candidate_at t path)) (accepts-is x path e) k) (carries₀ k path (path-last t x path e).0))
 
   abbrev Named : ℕ → ℕ → Type 0
-  Named x y = s.nodeLabels ≡ true → get_or g₀.labels x 0 ≡ get_or g₁.labels y 0
+  Named x y = s.node_labels ≡ true → get_or g₀.labels x 0 ≡ get_or g₁.labels y 0
 
-  names : (path : List ℕ) → acceptedPath t path ≡ true → Along Named (pairsOf t path)
+  names : (path : List ℕ) → accepted_path t path ≡ true → Along Named (pairs_of t path)
   names [] e = rw (pairs-nil t) tt
   names (x ∷ path) e =
       rw (pairs-cons t x path)
-      (labels-alike (pairsOf t path) x (node_of (candidateAt t path)) (accepts-is x path e), names path (path-last t x path e).0)
+      (labels-alike (pairs_of t path) x (node_of (candidate_at t path)) (accepts-is x path e), names path (path-last t x path e).0)
 
   -- on a whole path every node has an image
-  module _ (path : List ℕ) (accepted : acceptedPath t path ≡ true) (is_whole : whole t path ≡ true) where
-    pub image : (w : ℕ) → w < nodes g₁ → partner (exchanged (pairsOf t path)) w ≡ some (imageIn t path w)
+  module _ (path : List ℕ) (accepted : accepted_path t path ≡ true) (is_whole : whole t path ≡ true) where
+    pub image : (w : ℕ) → w < nodes g₁ → partner (exchanged (pairs_of t path)) w ≡ some (image_in t path w)
     image w l =
-        let us = mapped (exchanged (pairsOf t path)) in
-        mapped-partner (exchanged (pairsOf t path)) w
+        let us = mapped (exchanged (pairs_of t path)) in
+        mapped-partner (exchanged (pairs_of t path)) w
         (distinct-all (nodes g₁) us (partners-distinct t path accepted) (exchanged-length t path ∙ eqb-true (length path) (nodes g₁) is_whole) w l)
         (λ y h. h ∙ rw h)
 
-    image-back : (w : ℕ) → w < nodes g₁ → partner (pairsOf t path) (imageIn t path w) ≡ some w
+    image-back : (w : ℕ) → w < nodes g₁ → partner (pairs_of t path) (image_in t path w) ≡ some w
     image-back w l =
-        let d : Distinct (nodes g₀) (mapped (exchanged (exchanged (pairsOf t path)))) =
-        rw (exchanged-twice (pairsOf t path)) (path-distinct t path accepted) in
-        rw (exchanged-twice (pairsOf t path)) at (partner-back (nodes g₀) (exchanged (pairsOf t path)) d w (imageIn t path w) (image w l))
+        let d : Distinct (nodes g₀) (mapped (exchanged (exchanged (pairs_of t path)))) =
+        rw (exchanged-twice (pairs_of t path)) (path-distinct t path accepted) in
+        rw (exchanged-twice (pairs_of t path)) at (partner-back (nodes g₀) (exchanged (pairs_of t path)) d w (image_in t path w) (image w l))
 
-    pub path-places : Places t (imageIn t path)
+    pub path-places : Places t (image_in t path)
     path-places =
-        let least : (a b l : ℕ) → a < nodes g₁ → b < nodes g₁ → edgesOf s g₁ l a b ≤ edgesOf s g₀ l (imageIn t path a) (imageIn t path b) =
-        λ a b l i j. carries₁ path accepted l a b (imageIn t path a) (imageIn t path b) (image a i) (image b j) in
+        let least : (a b l : ℕ) → a < nodes g₁ → b < nodes g₁ → edges_of s g₁ l a b ≤ edges_of s g₀ l (image_in t path a) (image_in t path b) =
+        λ a b l i j. carries₁ path accepted l a b (image_in t path a) (image_in t path b) (image a i) (image b j) in
         record {
           within = λ a i.
-              distinct-below (nodes g₀) (mapped (pairsOf t path)) (path-distinct t path accepted) (imageIn t path a)
-              (partner-mapped (pairsOf t path) (imageIn t path a) a (image-back a i));
+              distinct-below (nodes g₀) (mapped (pairs_of t path)) (path-distinct t path accepted) (image_in t path a)
+              (partner-mapped (pairs_of t path) (image_in t path a) a (image-back a i));
           apart = λ a b i j e. let p = image-back a i in let q = image-back b j in cc;
-          labels-agree = λ c a i. partner-along Named (pairsOf t path) (names path accepted) (imageIn t path a) a (image-back a i) c;
+          labels_agree = λ c a i. partner-along Named (pairs_of t path) (names path accepted) (image_in t path a) a (image-back a i) c;
           at_least = least;
           equal = λ k a b l i j.
               le_antisymm (least a b l i j)
-              (carries₀ k path accepted l (imageIn t path a) (imageIn t path b) a b (image-back a i) (image-back b j));
+              (carries₀ k path accepted l (image_in t path a) (image_in t path b) a b (image-back a i) (image-back b j));
         }

@@ -9,14 +9,14 @@ use native.Mathlib.Omega.{arith}
 use lib.ListN.{length}
 use borrow.Author.Tests.{lt-ltb}
 use Rattle.basics.specs.Lists.{from, keep, total, member}
-use Rattle.basics.proofs.Tests.{case, option-case, none-not-some}
+use Rattle.basics.proofs.Tests.{case, option_case, none-not-some}
 use Rattle.basics.proofs.Laws.{from-none, from_suc, keep-nil, keep-true, keep-false, keep-same-from, total-nil, total-cons, member-head, member-tail}
 use Rattle.packed.specs.Graph.{nodes}
 use Rattle.rules.specs.Task.{Task}
 use Rattle.rules.specs.Marks.{Candidate, head, next_from}
-use Rattle.rules.specs.Search.{Top, Outer, Inner, Unwind, pairsOf, candidateAt, innerOr, onward, accepts, offered, acceptedPath}
-use Rattle.placements.specs.Listed.{joined, tried, whole, itself, orItself, mapsFrom, stepsFrom, pairsFrom, listed, steps_of, acceptedOf}
-use Rattle.placements.proofs.Candidates.{inList₀, offered-at}
+use Rattle.rules.specs.Search.{Top, Outer, Inner, Unwind, pairs_of, candidate_at, inner_or, onward, accepts, offered, accepted_path}
+use Rattle.placements.specs.Listed.{joined, tried, whole, itself, or_itself, maps_from, steps_from, pairs_from, listed, steps_of, accepted_of}
+use Rattle.placements.proofs.Candidates.{in_list₀, offered-at}
 use Rattle.rules.proofs.Stays.{candidate-least, path-joined}
 use Rattle.placements.proofs.Paths.{accepted-nil, tried-offered, tried-none, no-candidate}
 
@@ -55,11 +55,11 @@ module _ (t : Task) where
   -- so many steps, pairs accepted and maps found, from a path and top to another
   pub data Search : List ℕ → Top → ℕ → ℕ → List (List ℕ) → List ℕ → Top → Type 0 where
     nothing : {path : List ℕ} {top : Top} → Search path top 0 0 [] path top
-    opened : {path end : List ℕ} {last : Top} {s m : ℕ} {o : List (List ℕ)} {c : Candidate} → candidateAt t path ≡ some c
+    opened : {path end : List ℕ} {last : Top} {s m : ℕ} {o : List (List ℕ)} {c : Candidate} → candidate_at t path ≡ some c
         → Search path (Inner c.node₀) s m o end last → Search path Outer (suc s) m o end last
-    closed : {path end : List ℕ} {last : Top} {s m : ℕ} {o : List (List ℕ)} → candidateAt t path ≡ none → whole t path ≡ false
+    closed : {path end : List ℕ} {last : Top} {s m : ℕ} {o : List (List ℕ)} → candidate_at t path ≡ none → whole t path ≡ false
         → Search path Unwind s m o end last → Search path Outer (suc s) m o end last
-    found : {path end : List ℕ} {last : Top} {s m : ℕ} {o : List (List ℕ)} → candidateAt t path ≡ none → whole t path ≡ true
+    found : {path end : List ℕ} {last : Top} {s m : ℕ} {o : List (List ℕ)} → candidate_at t path ≡ none → whole t path ≡ true
         → Search path Unwind s m o end last → Search path Outer (suc s) m (path ∷ o) end last
     taken : {path end : List ℕ} {last : Top} {s m x : ℕ} {o : List (List ℕ)} → accepts t path x ≡ true
         → Search (x ∷ path) Outer s m o end last → Search path (Inner x) (suc s) (suc m) o end last
@@ -84,114 +84,114 @@ module _ (t : Task) where
   then (left x) y = retold (omega arith) refl refl (left (then x y))
 
   -- the nodes that are tried are those of the candidate's list
-  pub tried-list : (path : List ℕ) (c : Candidate) → candidateAt t path ≡ some c
-      → tried t path ≡ keep (inList₀ t (pairsOf t path) c.list) (from 0 (nodes t.graph₀))
+  pub tried-list : (path : List ℕ) (c : Candidate) → candidate_at t path ≡ some c
+      → tried t path ≡ keep (in_list₀ t (pairs_of t path) c.list) (from 0 (nodes t.graph₀))
   unfolding tried
   tried-list path c e =
-      keep-same-from (offered t path) (inList₀ t (pairsOf t path) c.list) (nodes t.graph₀)
+      keep-same-from (offered t path) (in_list₀ t (pairs_of t path) c.list) (nodes t.graph₀)
       (λ x l. offered-at t path c x e ∙ rw (lt-ltb x (nodes t.graph₀) l))
 
-  pub tried-first : (path : List ℕ) (c : Candidate) → candidateAt t path ≡ some c → head (tried t path) ≡ some c.node₀
+  pub tried-first : (path : List ℕ) (c : Candidate) → candidate_at t path ≡ some c → head (tried t path) ≡ some c.node₀
   tried-first path c e =
       let whole_run : nodes t.graph₀ - 0 ≡ nodes t.graph₀ = omega arith in
-      rw (tried-list path c e) (rw whole_run at (candidate-least t (pairsOf t path) c e).0)
+      rw (tried-list path c e) (rw whole_run at (candidate-least t (pairs_of t path) c e).0)
 
   -- the next one
-  pub onward-next : (path : List ℕ) (c : Candidate) (x : ℕ) (r : List ℕ) → candidateAt t path ≡ some c
-      → keep (inList₀ t (pairsOf t path) c.list) (from (suc x) (nodes t.graph₀ - suc x)) ≡ r → onward t path x ≡ innerOr (head r)
+  pub onward-next : (path : List ℕ) (c : Candidate) (x : ℕ) (r : List ℕ) → candidate_at t path ≡ some c
+      → keep (in_list₀ t (pairs_of t path) c.list) (from (suc x) (nodes t.graph₀ - suc x)) ≡ r → onward t path x ≡ inner_or (head r)
   unfolding onward next_from
   onward-next path c x r e h = rw (e, h)
 
-  pub steps-last : (path : List ℕ) → stepsFrom t 0 path ≡ 1
-  unfolding stepsFrom
+  pub steps-last : (path : List ℕ) → steps_from t 0 path ≡ 1
+  unfolding steps_from
   steps-last path = refl
 
-  pub pairs-last : (path : List ℕ) → pairsFrom t 0 path ≡ 0
-  unfolding pairsFrom
+  pub pairs-last : (path : List ℕ) → pairs_from t 0 path ≡ 0
+  unfolding pairs_from
   pairs-last path = refl
 
-  pub maps-last : (path : List ℕ) → mapsFrom t 0 path ≡ itself t path
-  unfolding mapsFrom
+  pub maps-last : (path : List ℕ) → maps_from t 0 path ≡ itself t path
+  unfolding maps_from
   maps-last path = refl
 
   module _ (k : ℕ) (path : List ℕ) where
-    abbrev pub stepsAt : ℕ → ℕ
-    stepsAt x = cond (accepts t path x) (suc (suc (stepsFrom t k (x ∷ path)))) 1
+    abbrev pub steps_at : ℕ → ℕ
+    steps_at x = cond (accepts t path x) (suc (suc (steps_from t k (x ∷ path)))) 1
 
-    abbrev pub pairsAt : ℕ → ℕ
-    pairsAt x = cond (accepts t path x) (suc (pairsFrom t k (x ∷ path))) 0
+    abbrev pub pairs_at : ℕ → ℕ
+    pairs_at x = cond (accepts t path x) (suc (pairs_from t k (x ∷ path))) 0
 
-    abbrev pub mapsAt : ℕ → List (List ℕ)
-    mapsAt x = cond (accepts t path x) (mapsFrom t k (x ∷ path)) []
+    abbrev pub maps_at : ℕ → List (List ℕ)
+    maps_at x = cond (accepts t path x) (maps_from t k (x ∷ path)) []
 
-    pub steps-more : stepsFrom t (suc k) path ≡ suc (total stepsAt (tried t path))
-    unfolding stepsFrom
+    pub steps-more : steps_from t (suc k) path ≡ suc (total steps_at (tried t path))
+    unfolding steps_from
     steps-more = refl
 
-    pub pairs-more : pairsFrom t (suc k) path ≡ total pairsAt (tried t path)
-    unfolding pairsFrom
+    pub pairs-more : pairs_from t (suc k) path ≡ total pairs_at (tried t path)
+    unfolding pairs_from
     pairs-more = refl
 
-    pub maps-more : mapsFrom t (suc k) path ≡ orItself t path (tried t path) (joined mapsAt (tried t path))
-    unfolding mapsFrom
+    pub maps-more : maps_from t (suc k) path ≡ or_itself t path (tried t path) (joined maps_at (tried t path))
+    unfolding maps_from
     maps-more = refl
 
   -- below a path: from Outer on it, whatever follows its Unwind
   abbrev pub Below : List ℕ → Top → ℕ → List ℕ → Type 0
   Below end last k path =
       (s m : ℕ) (o : List (List ℕ)) → Search path Unwind s m o end last
-      → Search path Outer (stepsFrom t k path + s) (pairsFrom t k path + m) (mapsFrom t k path ++ o) end last
+      → Search path Outer (steps_from t k path + s) (pairs_from t k path + m) (maps_from t k path ++ o) end last
 
   module _ (end : List ℕ) (last : Top) where
     -- the nodes that are still to be tried
-    branches : (k : ℕ) (path : List ℕ) (c : Candidate) → candidateAt t path ≡ some c → (i : ℕ) (r : List ℕ)
-        → keep (inList₀ t (pairsOf t path) c.list) (from i (nodes t.graph₀ - i)) ≡ r
+    branches : (k : ℕ) (path : List ℕ) (c : Candidate) → candidate_at t path ≡ some c → (i : ℕ) (r : List ℕ)
+        → keep (in_list₀ t (pairs_of t path) c.list) (from i (nodes t.graph₀ - i)) ≡ r
         → ((x : ℕ) → member x r ≡ true → accepts t path x ≡ true → Below end last k (x ∷ path))
         → {s m : ℕ} {o : List (List ℕ)} → Search path Unwind s m o end last
-        → Search path (innerOr (head r)) (total (stepsAt k path) r + s) (total (pairsAt k path) r + m) (joined (mapsAt k path) r ++ o) end last
+        → Search path (inner_or (head r)) (total (steps_at k path) r + s) (total (pairs_at k path) r + m) (joined (maps_at k path) r ++ o) end last
     branches k path c e i [] h kids {s} {m} {o} x =
-        retold (omega (arith, total-nil (stepsAt k path))) (omega (arith, total-nil (pairsAt k path))) (rw (joined-nil (mapsAt k path))) x
+        retold (omega (arith, total-nil (steps_at k path))) (omega (arith, total-nil (pairs_at k path))) (rw (joined-nil (maps_at k path))) x
     branches k path c e i (a ∷ r) h kids {s} {m} {o} x =
-        let rest = next-kept (inList₀ t (pairsOf t path) c.list) (nodes t.graph₀) i a r h in
+        let rest = next-kept (in_list₀ t (pairs_of t path) c.list) (nodes t.graph₀) i a r h in
         let further = branches k path c e (suc a) r rest (λ y l f. kids y (member-tail y a r l) f) x in
-        let next : Search path (onward t path a) (total (stepsAt k path) r + s) (total (pairsAt k path) r + m)
-        (joined (mapsAt k path) r ++ o) end last =
+        let next : Search path (onward t path a) (total (steps_at k path) r + s) (total (pairs_at k path) r + m)
+        (joined (maps_at k path) r ++ o) end last =
         rw (onward-next path c a r e rest) further in
         case (accepts t path a)
         (λ f.
-        let steps-here : stepsAt k path a ≡ suc (suc (stepsFrom t k (a ∷ path))) = rw f in
-        let pairs-here : pairsAt k path a ≡ suc (pairsFrom t k (a ∷ path)) = rw f in
-        let maps-here : mapsAt k path a ≡ mapsFrom t k (a ∷ path) = rw f in
-        retold (omega (arith, total-cons (stepsAt k path) a r)) (omega (arith, total-cons (pairsAt k path) a r))
-        (rw (joined-cons (mapsAt k path) a r, maps-here) (sym (append_assoc (mapsFrom t k (a ∷ path)) (joined (mapsAt k path) r) o)))
+        let steps-here : steps_at k path a ≡ suc (suc (steps_from t k (a ∷ path))) = rw f in
+        let pairs-here : pairs_at k path a ≡ suc (pairs_from t k (a ∷ path)) = rw f in
+        let maps-here : maps_at k path a ≡ maps_from t k (a ∷ path) = rw f in
+        retold (omega (arith, total-cons (steps_at k path) a r)) (omega (arith, total-cons (pairs_at k path) a r))
+        (rw (joined-cons (maps_at k path) a r, maps-here) (sym (append_assoc (maps_from t k (a ∷ path)) (joined (maps_at k path) r) o)))
         (taken f (kids a (member-head a r) f _ _ _ (left next))))
         (λ f.
-        let steps-here : stepsAt k path a ≡ 1 = rw f in
-        let pairs-here : pairsAt k path a ≡ 0 = rw f in
-        let maps-here : mapsAt k path a ≡ [] = rw f in
-        retold (omega (arith, total-cons (stepsAt k path) a r)) (omega (arith, total-cons (pairsAt k path) a r))
-        (rw (joined-cons (mapsAt k path) a r, maps-here))
+        let steps-here : steps_at k path a ≡ 1 = rw f in
+        let pairs-here : pairs_at k path a ≡ 0 = rw f in
+        let maps-here : maps_at k path a ≡ [] = rw f in
+        retold (omega (arith, total-cons (steps_at k path) a r)) (omega (arith, total-cons (pairs_at k path) a r))
+        (rw (joined-cons (maps_at k path) a r, maps-here))
         (passed f next))
 
     -- no candidate
-    alone : (path : List ℕ) → candidateAt t path ≡ none → {s m : ℕ} {o : List (List ℕ)} → Search path Unwind s m o end last
+    alone : (path : List ℕ) → candidate_at t path ≡ none → {s m : ℕ} {o : List (List ℕ)} → Search path Unwind s m o end last
         → Search path Outer (suc s) m (itself t path ++ o) end last
     alone path e x = case (whole t path) (λ w. rw w (found e w x)) (λ w. rw w (closed e w x))
 
-    pub or-others : (path l : List ℕ) (x : ℕ) (maps : List (List ℕ)) → head l ≡ some x → orItself t path l maps ≡ maps
+    pub or-others : (path l : List ℕ) (x : ℕ) (maps : List (List ℕ)) → head l ≡ some x → or_itself t path l maps ≡ maps
     or-others path [] x maps e = none-not-some e
     or-others path (y ∷ l) x maps e = refl
 
-    pub below : (k : ℕ) (path : List ℕ) → acceptedPath t path ≡ true → nodes t.graph₁ ≤ k + length path → Below end last k path
+    pub below : (k : ℕ) (path : List ℕ) → accepted_path t path ≡ true → nodes t.graph₁ ≤ k + length path → Below end last k path
     below zero path a h s m o x =
         retold (omega (arith, steps-last path)) (omega (arith, pairs-last path)) (rw (maps-last path))
         (alone path (no-candidate t path a (omega arith)) x)
     below (suc k) path a h s m o x =
-        option-case (candidateAt t path)
+        option_case (candidate_at t path)
         (λ e.
         let none_Tried = tried-none t path e in
-        let steps : total (stepsAt k path) (tried t path) ≡ 0 = rw none_Tried (total-nil (stepsAt k path)) in
-        let pairs : total (pairsAt k path) (tried t path) ≡ 0 = rw none_Tried (total-nil (pairsAt k path)) in
+        let steps : total (steps_at k path) (tried t path) ≡ 0 = rw none_Tried (total-nil (steps_at k path)) in
+        let pairs : total (pairs_at k path) (tried t path) ≡ 0 = rw none_Tried (total-nil (pairs_at k path)) in
         retold (omega (arith, steps-more k path)) (omega (arith, pairs-more k path)) (rw (maps-more k path, none_Tried)) (alone path e x))
         (λ c e.
         let n = nodes t.graph₀ in
@@ -201,11 +201,11 @@ module _ (t : Task) where
         let all = branches k path c e 0 (tried t path) (rw whole_run (sym list))
         (λ y l f. below k (y ∷ path) (path-joined t y path a (tried-offered t path y l) f) (omega arith)) x in
         retold (omega (arith, steps-more k path)) (ap (λ z. z + m) (sym (pairs-more k path)))
-        (rw (maps-more k path, or-others path (tried t path) c.node₀ (joined (mapsAt k path) (tried t path)) first))
+        (rw (maps-more k path, or-others path (tried t path) c.node₀ (joined (maps_at k path) (tried t path)) first))
         (opened e (rw first at all)))
 
   -- the whole search
-  pub searched : Search [] Outer (steps_of t) (acceptedOf t) (listed t) [] Unwind
+  pub searched : Search [] Outer (steps_of t) (accepted_of t) (listed t) [] Unwind
   searched =
       retold (omega arith) (omega arith) (append-nil (listed t))
       (below [] Unwind (nodes t.graph₁) [] (accepted-nil t) (omega arith) 0 0 [] nothing)

@@ -10,9 +10,9 @@ use native.Mathlib.Omega.{arith}
 use lib.Dec.{eqb}
 use borrow.Author.Tests.{eqb-true, eq-eqb}
 use Rattle.basics.specs.Lists.{count}
-use Rattle.basics.proofs.Tests.{case, option-case, never, and_left, and_right}
+use Rattle.basics.proofs.Tests.{case, option_case, never, and_left, and_right}
 use Rattle.basics.proofs.Laws.{count-nil, count-cons}
-use Rattle.rules.specs.Acceptable.{removed, isSubset}
+use Rattle.rules.specs.Acceptable.{removed, is_subset}
 use Rattle.rules.proofs.Matching.{same, removed-nil, removed-here, removed-nowhere, removed-further, subset-nil, subset-none, subset-some}
 
 abbrev Labelled : Type 0
@@ -43,20 +43,20 @@ removed-counts x [] = rw (removed-nil x) (count-nil (same x))
 removed-counts x (y ∷ ys) =
     case (same x y)
     (λ e. rw (removed-here x y ys e) (λ z. rw (count-cons (same z) y ys, same-equal x y e)))
-    (λ e. option-case (removed x ys)
+    (λ e. option_case (removed x ys)
     (λ h. let rest : Removed x ys none = rw h at (removed-counts x ys) in
     rw (removed-nowhere x y ys e h, count-cons (same x) y ys, e) (omega (arith, rest)))
     (λ zs h. rw (removed-further x y ys zs e h)
     (λ z. let rest : Removed x ys (some zs) = rw h at (removed-counts x ys) in
     omega (arith, rest z, count-cons (same z) y ys, count-cons (same z) y zs))))
 
-pub subset-counts : (xs ys : List Labelled) → (isSubset xs ys ≡ true) ↔ ((z : Labelled) → occurs z xs ≤ occurs z ys)
+pub subset-counts : (xs ys : List Labelled) → (is_subset xs ys ≡ true) ↔ ((z : Labelled) → occurs z xs ≤ occurs z ys)
 subset-counts [] ys = (λ e z. rw (count-nil (same z)) (omega arith), λ h. subset-nil ys)
 subset-counts (x ∷ xs) ys =
-    option-case (removed x ys)
+    option_case (removed x ys)
     (λ h.
     let none_left : occurs x ys ≡ 0 = rw h at (removed-counts x ys) in (
-      λ e. never (isSubset (x ∷ xs) ys) e (subset-none x xs ys h),
+      λ e. never (is_subset (x ∷ xs) ys) e (subset-none x xs ys h),
       λ k. let own : ◌≡◌ {A = ℕ} (cond (same x x) 1 0) 1 = rw (same-own x) in absurd (omega (arith, k x, count-cons (same x) x xs)),
     ))
     (λ zs h.

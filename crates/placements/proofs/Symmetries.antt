@@ -14,21 +14,21 @@ use Rattle.basics.proofs.Distinct.{distinct-all}
 use Rattle.basics.proofs.Place.{place_at}
 use Rattle.packed.specs.Graph.{nodes}
 use Rattle.rules.specs.Task.{agree}
-use Rattle.rules.specs.Placement.{edgesOf}
+use Rattle.rules.specs.Placement.{edges_of}
 use Rattle.placements.specs.Claims.{Identity, Chained, CountsChained, reverse, Reversed}
 use Rattle.placements.proofs.Sums.{Into, Apart}
 use Rattle.placements.proofs.Kept.{equal-nodes, edges-equal}
 
 pub identity : Identity
 identity s g =
-    record { within = λ a i. i; apart = λ a b i j e. e; labels-agree = λ c a i. refl; at_least = λ a b l i j. le_refl _; equal = λ c a b l i j. refl }
+    record { within = λ a i. i; apart = λ a b i j e. e; labels_agree = λ c a i. refl; at_least = λ a b l i j. le_refl _; equal = λ c a b l i j. refl }
 
 pub chained : Chained
 chained s g₀ g₁ g₂ φ ψ p q =
     record {
       within = λ a i. p.within (ψ a) (q.within a i);
       apart = λ a b i j e. q.apart a b i j (p.apart (ψ a) (ψ b) (q.within a i) (q.within b j) e);
-      labels-agree = λ c a i. p.labels-agree c (ψ a) (q.within a i) ∙ q.labels-agree c a i;
+      labels_agree = λ c a i. p.labels_agree c (ψ a) (q.within a i) ∙ q.labels_agree c a i;
       at_least = λ a b l i j. le_trans (q.at_least a b l i j) (p.at_least (ψ a) (ψ b) l (q.within a i) (q.within b j));
       equal = λ c a b l i j. q.equal c a b l i j ∙ p.equal c (ψ a) (ψ b) l (q.within a i) (q.within b j);
     }
@@ -97,17 +97,17 @@ reversed s g₀ g₁ φ e files agreed p =
     let into : Into n n φ = rw same at p.within in
     let there : (a : ℕ) → a < nodes g₀ → φ (reverse n φ a) ≡ a = λ a i. reverse-there n φ into p.apart a (rw same at i) in
     let below : (a : ℕ) → a < nodes g₀ → reverse n φ a < n = λ a i. reverse-below n φ into p.apart a (rw same at i) in
-    let kept : (a b l : ℕ) → a < nodes g₀ → b < nodes g₀ → edgesOf s g₀ l a b ≡ edgesOf s g₁ l (reverse n φ a) (reverse n φ b) =
+    let kept : (a b l : ℕ) → a < nodes g₀ → b < nodes g₀ → edges_of s g₀ l a b ≡ edges_of s g₁ l (reverse n φ a) (reverse n φ b) =
     λ a b l i j. sym
     (rw (there a i, there b j) at (edges-equal s g₀ g₁ φ p files agreed e l (reverse n φ a) (reverse n φ b) (below a i) (below b j))) in
     record {
-      is-placement = record {
+      is_placement = record {
         within = below;
         apart = λ a b i j z. sym (there a i) ∙ ap φ z ∙ there b j;
-        labels-agree = λ c a i. sym (rw (there a i) at (p.labels-agree c (reverse n φ a) (below a i)));
+        labels_agree = λ c a i. sym (rw (there a i) at (p.labels_agree c (reverse n φ a) (below a i)));
         at_least = λ a b l i j. le_of_eq (kept a b l i j);
         equal = λ c a b l i j. kept a b l i j;
       };
       there_and_back = there;
-      back-and-there = reverse-back n φ into p.apart;
+      back_and_there = reverse-back n φ into p.apart;
     }

@@ -8,7 +8,7 @@ use mathlib.Core.Path.{◌≡◌, refl, ◌∙◌, ap}
 use native.Mathlib.Omega.{arith}
 use Rattle.rules.specs.Task.{Task}
 use Rattle.rules.specs.Search.{Top, Outer, Inner, Unwind, Record, onward, above, raised, step}
-use Rattle.placements.specs.Calls.{takes, after, acceptedIn, foundIn}
+use Rattle.placements.specs.Calls.{takes, after, accepted_in, found_in}
 use Rattle.placements.proofs.Steps.{step-candidate, step-none, step-taken, step-passed, step_left}
 use Rattle.placements.proofs.Searched.{Search, nothing, opened, closed, found, taken, passed, left}
 
@@ -25,28 +25,28 @@ module _ (u : Task) (free : u.settings.limit ≡ none) where
   never-above k = rw free
 
   pub record Comes (r : Record) (s m : ℕ) (o : List (List ℕ)) (end : List ℕ) (last : Top) : Type 0 where
-    pub path-is : (after u s r).path ≡ end
-    pub top-is : (after u s r).top ≡ last
-    pub accepted-is : acceptedIn u s r ≡ m
-    pub found-is : foundIn u s r ≡ o
+    pub path_is : (after u s r).path ≡ end
+    pub top_is : (after u s r).top ≡ last
+    pub accepted_is : accepted_in u s r ≡ m
+    pub found_is : found_in u s r ≡ o
 
   -- one step, and what comes then
   one_more : (r q : Record) (s m : ℕ) (o : List (List ℕ)) (end : List ℕ) (last : Top) (t f : Bool)
       → step u r.path r.top r.accepted ≡ (q, f) → takes u r.path r.top ≡ t
       → Comes q s m o end last → Comes r (suc s) (cond t 1 0 + m) (cond f (r.path ∷ []) [] ++ o) end last
-  unfolding acceptedIn foundIn
+  unfolding accepted_in found_in
   one_more r q s m o end last t f e h c =
       let next : after u (suc s) r ≡ after u s q = after_more u s r ∙ ap (λ z. after u s z.0) e in
       record {
-        path-is = ap (λ z. z.path) next ∙ c.path-is;
-        top-is = ap (λ z. z.top) next ∙ c.top-is;
-        accepted-is = rw (e, h, c.accepted-is);
-        found-is = rw (e, c.found-is);
+        path_is = ap (λ z. z.path) next ∙ c.path_is;
+        top_is = ap (λ z. z.top) next ∙ c.top_is;
+        accepted_is = rw (e, h, c.accepted_is);
+        found_is = rw (e, c.found_is);
       }
 
   comes-now : (r : Record) → Comes r 0 0 [] r.path r.top
-  unfolding after acceptedIn foundIn
-  comes-now r = record { path-is = refl; top-is = refl; accepted-is = refl; found-is = refl }
+  unfolding after accepted_in found_in
+  comes-now r = record { path_is = refl; top_is = refl; accepted_is = refl; found_is = refl }
 
   counted : {r : Record} {s m m' : ℕ} {o : List (List ℕ)} {end : List ℕ} {last : Top} → m ≡ m' → Comes r s m o end last
       → Comes r s m' o end last
@@ -83,8 +83,8 @@ module _ (u : Task) (free : u.settings.limit ≡ none) where
       (record { path = path; top = onward u path a; accepted = k }) s m o end last false false (step_left u path a k) refl (comes x k))
 
 -- more steps accept no fewer pairs
-pub accepted-more : (u : Task) (s d : ℕ) (r : Record) → acceptedIn u s r ≤ acceptedIn u (s + d) r
-unfolding acceptedIn
+pub accepted-more : (u : Task) (s d : ℕ) (r : Record) → accepted_in u s r ≤ accepted_in u (s + d) r
+unfolding accepted_in
 accepted-more u zero d r = omega arith
 accepted-more u (suc s) d r =
     let e : suc s + d ≡ suc (s + d) = omega arith in

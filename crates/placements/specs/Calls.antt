@@ -19,8 +19,8 @@ module _ (t : Task) where
   abbrev pub after_call : List (List ℕ) → ℕ → Called → Called
   after_call maps steps c = record { maps = maps ++ c.maps; steps = steps + c.steps; ending = c.ending; record' = c.record' }
 
-  abbrev pub last-call : Went → Called
-  last-call w = record { maps = []; steps = w.steps; ending = some w.answer; record' = w.record' }
+  abbrev pub last_call : Went → Called
+  last_call w = record { maps = []; steps = w.steps; ending = some w.answer; record' = w.record' }
 
   -- a call with each budget, until None or Limit
   unfoldable pub calls : List ℕ → Record → Called
@@ -31,24 +31,24 @@ module _ (t : Task) where
       elim w.answer [
         | Found ↦ after_call (w.record'.path ∷ []) w.steps (calls budgets w.record')
         | Paused ↦ after_call [] w.steps (calls budgets w.record')
-        | None ↦ last-call w
-        | Limit ↦ last-call w
+        | None ↦ last_call w
+        | Limit ↦ last_call w
       ]
 
 -- the same settings, and the same task, without a limit
-abbrev pub withoutLimit : Settings → Settings
-withoutLimit s =
+abbrev pub without_limit : Settings → Settings
+without_limit s =
     record {
       greater = s.greater;
       vf2pp = s.vf2pp;
       induced = s.induced;
-      nodeLabels = s.nodeLabels;
-      edgeLabels = s.edgeLabels;
+      node_labels = s.node_labels;
+      edge_labels = s.edge_labels;
       limit = none;
     }
 
 abbrev pub unlimited : Task → Task
-unlimited t = record { settings = withoutLimit t.settings; graph₀ = t.graph₀; graph₁ = t.graph₁ }
+unlimited t = record { settings = without_limit t.settings; graph₀ = t.graph₀; graph₁ = t.graph₁ }
 
 -- the record after so many steps, the pairs that they accept, and the maps that they find
 module _ (t : Task) where
@@ -62,13 +62,13 @@ module _ (t : Task) where
   after zero r = r
   after (suc s) r = after s (step t r.path r.top r.accepted).0
 
-  unfoldable pub acceptedIn : ℕ → Record → ℕ
+  unfoldable pub accepted_in : ℕ → Record → ℕ
   unfolding step
-  acceptedIn zero r = 0
-  acceptedIn (suc s) r = cond (takes r.path r.top) 1 0 + acceptedIn s (step t r.path r.top r.accepted).0
+  accepted_in zero r = 0
+  accepted_in (suc s) r = cond (takes r.path r.top) 1 0 + accepted_in s (step t r.path r.top r.accepted).0
 
-  unfoldable pub foundIn : ℕ → Record → List (List ℕ)
+  unfoldable pub found_in : ℕ → Record → List (List ℕ)
   unfolding step
-  foundIn zero r = []
-  foundIn (suc s) r =
-      cond (step t r.path r.top r.accepted).1 (r.path ∷ []) [] ++ foundIn s (step t r.path r.top r.accepted).0
+  found_in zero r = []
+  found_in (suc s) r =
+      cond (step t r.path r.top r.accepted).1 (r.path ∷ []) [] ++ found_in s (step t r.path r.top r.accepted).0

@@ -4,15 +4,15 @@ use Rattle.std.proofs.Math.Option.{some}
 use Rattle.basics.specs.Lists.{from, count, total, place}
 use Rattle.packed.specs.Graph.{Edge, Graph, nodes}
 use Rattle.packed.specs.Refusals.{graph, reading}
-use Rattle.settings.specs.Settings.{Settings, settingsOf, badSettings}
+use Rattle.settings.specs.Settings.{Settings, settings_of, bad_settings}
 use Rattle.graph.specs.Within.{Within}
-use Rattle.order.specs.Order.{nodeOrder}
-use Rattle.rules.specs.Task.{Task, task_of, graphsAgree, countsAgree, exchanged, partner}
+use Rattle.order.specs.Order.{node_order}
+use Rattle.rules.specs.Task.{Task, task_of, graphs_agree, counts_agree, exchanged, partner}
 use Rattle.rules.specs.Acceptable.{all}
-use Rattle.rules.specs.Search.{Record, started, pairsOf, image_of, mapOf, mapOfIds, Answer, Found, None, Limit, Paused, continue, acceptedRecord}
+use Rattle.rules.specs.Search.{Record, started, pairs_of, image_of, map_of, map_of_ids, Answer, Found, None, Limit, Paused, continue, accepted_record}
 use Rattle.rules.specs.Placement.{Placement}
-use Rattle.placements.specs.Listed.{whole, listed, steps_of, acceptedOf}
-use Rattle.placements.specs.Calls.{Called, calls, unlimited, after, acceptedIn, foundIn}
+use Rattle.placements.specs.Listed.{whole, listed, steps_of, accepted_of}
+use Rattle.placements.specs.Calls.{Called, calls, unlimited, after, accepted_in, found_in}
 
 -- What two accepted files of one kind ensure
 
@@ -22,8 +22,8 @@ LabelsBelow n (e ∷ es) = (e.label < n) × LabelsBelow n es
 
 -- edges name nodes, and a label has 6 bits
 pub record AcceptedFile (g : Graph) : Type 0 where
-  pub edges-within : Within (nodes g) g.edges
-  pub labels-below : LabelsBelow 64 g.edges
+  pub edges_within : Within (nodes g) g.edges
+  pub labels_below : LabelsBelow 64 g.edges
 
 pub record OfOneKind (g₀ g₁ : Graph) : Type 0 where
   pub accepted₀ : AcceptedFile g₀
@@ -41,7 +41,7 @@ FilesEnsure =
 
 -- and settings that are not refused have a limit of at most its maximum, if they have one
 abbrev pub SettingsEnsure : Type 0
-SettingsEnsure = (bytes : List ℕ) (limit : ℕ) → badSettings bytes ≡ false → (settingsOf bytes).limit ≡ some limit → limit ≤ 4294967294
+SettingsEnsure = (bytes : List ℕ) (limit : ℕ) → bad_settings bytes ≡ false → (settings_of bytes).limit ≡ some limit → limit ≤ 4294967294
 
 -- Placements among themselves
 
@@ -54,12 +54,12 @@ Chained =
 
 abbrev pub CountsChained : Type 0
 CountsChained =
-    (s : Settings) (g₀ g₁ g₂ : Graph) → graphsAgree s g₀ g₁ ≡ true → graphsAgree s g₁ g₂ ≡ true → graphsAgree s g₀ g₂ ≡ true
+    (s : Settings) (g₀ g₁ g₂ : Graph) → graphs_agree s g₀ g₁ ≡ true → graphs_agree s g₁ g₂ ≡ true → graphs_agree s g₀ g₂ ≡ true
 
 -- under Greater a placement implies that the counts agree: each node and each edge of the block has one of its own on the board
 abbrev pub CountsImplied : Type 0
 CountsImplied =
-    (s : Settings) (g₀ g₁ : Graph) (φ : ℕ → ℕ) → s.greater ≡ true → OfOneKind g₀ g₁ → Placement s g₀ g₁ φ → graphsAgree s g₀ g₁ ≡ true
+    (s : Settings) (g₀ g₁ : Graph) (φ : ℕ → ℕ) → s.greater ≡ true → OfOneKind g₀ g₁ → Placement s g₀ g₁ φ → graphs_agree s g₀ g₁ ≡ true
 
 -- the node that φ sends to a
 unfoldable pub reverse : ℕ → (ℕ → ℕ) → ℕ → ℕ
@@ -68,59 +68,59 @@ reverse n φ a = place a (map φ (from 0 n))
 
 -- under Equal a placement can be turned round
 pub record Reverse (s : Settings) (g₀ g₁ : Graph) (φ : ℕ → ℕ) : Type 0 where
-  pub is-placement : Placement s g₁ g₀ (reverse (nodes g₁) φ)
+  pub is_placement : Placement s g₁ g₀ (reverse (nodes g₁) φ)
   pub there_and_back : (a : ℕ) → a < nodes g₀ → φ (reverse (nodes g₁) φ a) ≡ a
-  pub back-and-there : (a : ℕ) → a < nodes g₁ → reverse (nodes g₁) φ (φ a) ≡ a
+  pub back_and_there : (a : ℕ) → a < nodes g₁ → reverse (nodes g₁) φ (φ a) ≡ a
 
 abbrev pub Reversed : Type 0
 Reversed =
-    (s : Settings) (g₀ g₁ : Graph) (φ : ℕ → ℕ) → s.greater ≡ false → OfOneKind g₀ g₁ → graphsAgree s g₀ g₁ ≡ true
+    (s : Settings) (g₀ g₁ : Graph) (φ : ℕ → ℕ) → s.greater ≡ false → OfOneKind g₀ g₁ → graphs_agree s g₀ g₁ ≡ true
     → Placement s g₀ g₁ φ → Reverse s g₀ g₁ φ
 
 -- Ids and positions: both graphs are renumbered by their own order
 
 module _ (s : Settings) (g₀ g₁ : Graph) where
   -- a map of ids, seen at positions, and back
-  abbrev pub onPositions : (ℕ → ℕ) → ℕ → ℕ
-  onPositions φ w = place (φ (get_or (nodeOrder s.vf2pp g₁) w 0)) (nodeOrder s.vf2pp g₀)
+  abbrev pub on_positions : (ℕ → ℕ) → ℕ → ℕ
+  on_positions φ w = place (φ (get_or (node_order s.vf2pp g₁) w 0)) (node_order s.vf2pp g₀)
 
-  abbrev pub onIds : (ℕ → ℕ) → ℕ → ℕ
-  onIds ψ v = get_or (nodeOrder s.vf2pp g₀) (ψ (place v (nodeOrder s.vf2pp g₁))) 0
+  abbrev pub on_ids : (ℕ → ℕ) → ℕ → ℕ
+  on_ids ψ v = get_or (node_order s.vf2pp g₀) (ψ (place v (node_order s.vf2pp g₁))) 0
 
   pub record Renumbered : Type 0 where
     pub sound : Sound (task_of s g₀ g₁)
-    pub counts : countsAgree (task_of s g₀ g₁) ≡ graphsAgree s g₀ g₁
-    pub to-positions : (φ : ℕ → ℕ) → Placement s g₀ g₁ φ → Placement s (task_of s g₀ g₁).graph₀ (task_of s g₀ g₁).graph₁ (onPositions φ)
-    pub to-ids : (ψ : ℕ → ℕ) → Placement s (task_of s g₀ g₁).graph₀ (task_of s g₀ g₁).graph₁ ψ → Placement s g₀ g₁ (onIds ψ)
+    pub counts : counts_agree (task_of s g₀ g₁) ≡ graphs_agree s g₀ g₁
+    pub to_positions : (φ : ℕ → ℕ) → Placement s g₀ g₁ φ → Placement s (task_of s g₀ g₁).graph₀ (task_of s g₀ g₁).graph₁ (on_positions φ)
+    pub to_ids : (ψ : ℕ → ℕ) → Placement s (task_of s g₀ g₁).graph₀ (task_of s g₀ g₁).graph₁ ψ → Placement s g₀ g₁ (on_ids ψ)
     -- and nothing is lost on the way
-    pub ids-again : (φ : ℕ → ℕ) → Placement s g₀ g₁ φ → (v : ℕ) → v < nodes g₁ → onIds (onPositions φ) v ≡ φ v
-    pub positions-again : (ψ : ℕ → ℕ) → Placement s (task_of s g₀ g₁).graph₀ (task_of s g₀ g₁).graph₁ ψ
-        → (w : ℕ) → w < nodes (task_of s g₀ g₁).graph₁ → onPositions (onIds ψ) w ≡ ψ w
+    pub ids_again : (φ : ℕ → ℕ) → Placement s g₀ g₁ φ → (v : ℕ) → v < nodes g₁ → on_ids (on_positions φ) v ≡ φ v
+    pub positions_again : (ψ : ℕ → ℕ) → Placement s (task_of s g₀ g₁).graph₀ (task_of s g₀ g₁).graph₁ ψ
+        → (w : ℕ) → w < nodes (task_of s g₀ g₁).graph₁ → on_positions (on_ids ψ) w ≡ ψ w
 
 -- The search finds placements
 
 module _ (t : Task) where
   -- the image of a graph-1 position in the map that a path shows
-  abbrev pub imageIn : List ℕ → ℕ → ℕ
-  imageIn path w = image_of (partner (exchanged (pairsOf t path)) w)
+  abbrev pub image_in : List ℕ → ℕ → ℕ
+  image_in path w = image_of (partner (exchanged (pairs_of t path)) w)
 
   abbrev pub Places : (ℕ → ℕ) → Type 0
   Places φ = Placement t.settings t.graph₀ t.graph₁ φ
 
   -- the pairs that Found hands out, over positions
   abbrev pub MapShows : Type 0
-  MapShows = (path : List ℕ) → mapOf t path ≡ map (λ w. (imageIn path w, w)) (from 0 (nodes t.graph₁))
+  MapShows = (path : List ℕ) → map_of t path ≡ map (λ w. (image_in path w, w)) (from 0 (nodes t.graph₁))
 
   -- whatever the limit and the budgets, from an accepted record only accepted ones follow
   pub record AcceptedStays : Type 0 where
-    pub at-start : acceptedRecord t started ≡ true
-    pub onward : (budget : ℕ) (r : Record) → acceptedRecord t r ≡ true → acceptedRecord t (continue t budget r).record' ≡ true
+    pub at_start : accepted_record t started ≡ true
+    pub onward : (budget : ℕ) (r : Record) → accepted_record t r ≡ true → accepted_record t (continue t budget r).record' ≡ true
 
   -- and each map found is a placement
   abbrev pub EveryMapPlaces : Type 0
   EveryMapPlaces =
-      (budget : ℕ) (r : Record) → acceptedRecord t r ≡ true → (continue t budget r).answer ≡ Found
-      → Places (imageIn (continue t budget r).record'.path)
+      (budget : ℕ) (r : Record) → accepted_record t r ≡ true → (continue t budget r).answer ≡ Found
+      → Places (image_in (continue t budget r).record'.path)
 
 -- The listing
 
@@ -131,7 +131,7 @@ Each P (x ∷ xs) = P x × Each P xs
 
 -- a path shows φ where all images are equal
 abbrev pub shows : Task → (ℕ → ℕ) → List ℕ → Bool
-shows t φ path = all (λ w. eqb (imageIn t path w) (φ w)) (from 0 (nodes t.graph₁))
+shows t φ path = all (λ w. eqb (image_in t path w) (φ w)) (from 0 (nodes t.graph₁))
 
 -- n!/(n-k)!, the product of k numbers from n downward
 unfoldable pub falling : ℕ → ℕ → ℕ
@@ -144,9 +144,9 @@ permutations n k = total (falling n) (from 0 (suc k))
 
 -- what `Listed` defines of a task is the same without a limit
 pub record LimitPlaysNoPart (t : Task) : Type 0 where
-  pub same-maps : listed (unlimited t) ≡ listed t
-  pub same-steps : steps_of (unlimited t) ≡ steps_of t
-  pub same-accepted : acceptedOf (unlimited t) ≡ acceptedOf t
+  pub same_maps : listed (unlimited t) ≡ listed t
+  pub same_steps : steps_of (unlimited t) ≡ steps_of t
+  pub same_accepted : accepted_of (unlimited t) ≡ accepted_of t
 
 -- where counts don't agree, there is no map
 abbrev pub NoMap : Task → Type 0
@@ -155,7 +155,7 @@ NoMap t = (budget : ℕ) (r : Record) → continue t budget r ≡ record { answe
 -- a call makes no more steps than its budget, and pauses only once they are made; the next call goes on as if it had not paused
 pub record Budgets (t : Task) : Type 0 where
   pub within : (budget : ℕ) (r : Record) → (continue t budget r).steps ≤ budget
-  pub paused-used : (budget : ℕ) (r : Record) → (continue t budget r).answer ≡ Paused → (continue t budget r).steps ≡ budget
+  pub paused_used : (budget : ℕ) (r : Record) → (continue t budget r).answer ≡ Paused → (continue t budget r).steps ≡ budget
   pub goes_on : (budget more : ℕ) (r : Record) → (continue t budget r).answer ≡ Paused
       → ((continue t (budget + more) r).answer ≡ (continue t more (continue t budget r).record').answer)
       × ((continue t (budget + more) r).steps ≡ budget + (continue t more (continue t budget r).record').steps)
@@ -168,15 +168,15 @@ called t budgets = calls t budgets started
 
 pub record FromStart (t : Task) (c : Called t) : Type 0 where
   -- the maps are the first ones of the listing
-  pub first-maps : (rest : List (List ℕ)) × (c.maps ++ rest ≡ listed t)
-  pub found : c.maps ≡ foundIn (unlimited t) c.steps started
+  pub first_maps : (rest : List (List ℕ)) × (c.maps ++ rest ≡ listed t)
+  pub found : c.maps ≡ found_in (unlimited t) c.steps started
   -- the accepted count is the number of pairs accepted
-  pub accepted : c.record'.accepted ≡ min (acceptedIn (unlimited t) c.steps started) 4294967295
+  pub accepted : c.record'.accepted ≡ min (accepted_in (unlimited t) c.steps started) 4294967295
   -- over the limit nothing else changes
-  pub path-there : (c.ending ≡ some Limit → ⊥) → c.record'.path ≡ (after (unlimited t) c.steps started).path
-  pub top-there : (c.ending ≡ some Limit → ⊥) → c.record'.top ≡ (after (unlimited t) c.steps started).top
-  pub steps-most : c.steps ≤ steps_of t
-  pub steps-within : c.steps ≤ (nodes t.graph₀ + 2) * permutations (nodes t.graph₀) (nodes t.graph₁)
+  pub path_there : (c.ending ≡ some Limit → ⊥) → c.record'.path ≡ (after (unlimited t) c.steps started).path
+  pub top_there : (c.ending ≡ some Limit → ⊥) → c.record'.top ≡ (after (unlimited t) c.steps started).top
+  pub steps_most : c.steps ≤ steps_of t
+  pub steps_within : c.steps ≤ (nodes t.graph₀ + 2) * permutations (nodes t.graph₀) (nodes t.graph₁)
 
 -- budgets change neither the maps nor their order nor the ending, nor anything else of what all calls together come to
 abbrev pub BudgetsAlike : Task → Type 0
@@ -189,14 +189,14 @@ AtLeastOne budgets = Each (λ b. 1 ≤ b) budgets
 
 -- without a limit, where counts agree, the listing is all placements
 pub record Listing (t : Task) : Type 0 where
-  pub all-place : Each (λ path. (whole t path ≡ true) × Places t (imageIn t path)) (listed t)
-  pub each-once : (φ : ℕ → ℕ) → Places t φ → count (shows t φ) (listed t) ≡ 1
-  pub calls-first : (budgets : List ℕ) → FromStart t (called t budgets)
-  pub calls-whole : (budgets : List ℕ) (a : Answer) → (called t budgets).ending ≡ some a
+  pub all_place : Each (λ path. (whole t path ≡ true) × Places t (image_in t path)) (listed t)
+  pub each_once : (φ : ℕ → ℕ) → Places t φ → count (shows t φ) (listed t) ≡ 1
+  pub calls_first : (budgets : List ℕ) → FromStart t (called t budgets)
+  pub calls_whole : (budgets : List ℕ) (a : Answer) → (called t budgets).ending ≡ some a
       → (a ≡ None) × ((called t budgets).maps ≡ listed t) × ((called t budgets).steps ≡ steps_of t)
-  pub calls-end : (budgets : List ℕ) → AtLeastOne budgets → steps_of t < length budgets → (called t budgets).ending ≡ some None
-  pub budgets-alike : BudgetsAlike t
-  pub steps-within : steps_of t ≤ (nodes t.graph₀ + 2) * permutations (nodes t.graph₀) (nodes t.graph₁)
+  pub calls_end : (budgets : List ℕ) → AtLeastOne budgets → steps_of t < length budgets → (called t budgets).ending ≡ some None
+  pub budgets_alike : BudgetsAlike t
+  pub steps_within : steps_of t ≤ (nodes t.graph₀ + 2) * permutations (nodes t.graph₀) (nodes t.graph₁)
 
 -- a limit has at most its maximum
 abbrev pub LimitMost : Task → Type 0
@@ -204,50 +204,50 @@ LimitMost t = (limit : ℕ) → t.settings.limit ≡ some limit → limit ≤ 42
 
 -- with a limit, the ending is Limit exactly where the search without one accepts more pairs
 pub record Limited (t : Task) (limit : ℕ) : Type 0 where
-  pub calls-first : (budgets : List ℕ) → FromStart t (called t budgets)
-  pub accepted-exact : (budgets : List ℕ) → (called t budgets).record'.accepted ≡ acceptedIn (unlimited t) (called t budgets).steps started
-  pub ending : (budgets : List ℕ) (a : Answer) → (called t budgets).ending ≡ some a → a ≡ cond (ltb limit (acceptedOf t)) Limit None
-  pub ended-none : (budgets : List ℕ) → (called t budgets).ending ≡ some None
+  pub calls_first : (budgets : List ℕ) → FromStart t (called t budgets)
+  pub accepted_exact : (budgets : List ℕ) → (called t budgets).record'.accepted ≡ accepted_in (unlimited t) (called t budgets).steps started
+  pub ending : (budgets : List ℕ) (a : Answer) → (called t budgets).ending ≡ some a → a ≡ cond (ltb limit (accepted_of t)) Limit None
+  pub ended_none : (budgets : List ℕ) → (called t budgets).ending ≡ some None
       → ((called t budgets).maps ≡ listed t) × ((called t budgets).steps ≡ steps_of t)
   -- it ends at the step that accepts one pair more than the limit
-  pub ended-limit : (budgets : List ℕ) → (called t budgets).ending ≡ some Limit
-      → (s : ℕ) × ((called t budgets).steps ≡ suc s) × (acceptedIn (unlimited t) s started ≡ limit) × (acceptedIn (unlimited t) (suc s) started ≡ suc limit)
-  pub calls-end : (budgets : List ℕ) → AtLeastOne budgets → steps_of t < length budgets
-      → (called t budgets).ending ≡ some (cond (ltb limit (acceptedOf t)) Limit None)
-  pub budgets-alike : BudgetsAlike t
+  pub ended_limit : (budgets : List ℕ) → (called t budgets).ending ≡ some Limit
+      → (s : ℕ) × ((called t budgets).steps ≡ suc s) × (accepted_in (unlimited t) s started ≡ limit) × (accepted_in (unlimited t) (suc s) started ≡ suc limit)
+  pub calls_end : (budgets : List ℕ) → AtLeastOne budgets → steps_of t < length budgets
+      → (called t budgets).ending ≡ some (cond (ltb limit (accepted_of t)) Limit None)
+  pub budgets_alike : BudgetsAlike t
 
 -- The records that are accepted are those that the search passes on its way from Start, the accepted count aside
 
 pub record Records (t : Task) : Type 0 where
-  pub passed-accepted : (s : ℕ) → acceptedRecord t (after (unlimited t) s started) ≡ true
-  pub accepted-passed : (r : Record) → acceptedRecord t r ≡ true
+  pub passed_accepted : (s : ℕ) → accepted_record t (after (unlimited t) s started) ≡ true
+  pub accepted_passed : (r : Record) → accepted_record t r ≡ true
       → (s : ℕ) × (s ≤ steps_of t) × ((after (unlimited t) s started).path ≡ r.path) × ((after (unlimited t) s started).top ≡ r.top)
 
 -- The same over ids
 
 module _ (s : Settings) (g₀ g₁ : Graph) where
   -- the image of a graph-1 id in the map that a path shows
-  abbrev pub idImage : List ℕ → ℕ → ℕ
-  idImage path = onIds s g₀ g₁ (imageIn (task_of s g₀ g₁) path)
+  abbrev pub id_image : List ℕ → ℕ → ℕ
+  id_image path = on_ids s g₀ g₁ (image_in (task_of s g₀ g₁) path)
 
-  abbrev pub showsIds : (ℕ → ℕ) → List ℕ → Bool
-  showsIds φ path = all (λ v. eqb (idImage path v) (φ v)) (from 0 (nodes g₁))
+  abbrev pub shows_ids : (ℕ → ℕ) → List ℕ → Bool
+  shows_ids φ path = all (λ v. eqb (id_image path v) (φ v)) (from 0 (nodes g₁))
 
   pub record ListingOfIds : Type 0 where
     -- in graph 1's node order, each with its image
-    pub pairs : (path : List ℕ) → mapOfIds s g₀ g₁ path ≡ map (λ v. (idImage path v, v)) (nodeOrder s.vf2pp g₁)
-    pub all-place : Each (λ path. Placement s g₀ g₁ (idImage path)) (listed (task_of s g₀ g₁))
-    pub each-once : (φ : ℕ → ℕ) → Placement s g₀ g₁ φ → count (showsIds φ) (listed (task_of s g₀ g₁)) ≡ 1
+    pub pairs : (path : List ℕ) → map_of_ids s g₀ g₁ path ≡ map (λ v. (id_image path v, v)) (node_order s.vf2pp g₁)
+    pub all_place : Each (λ path. Placement s g₀ g₁ (id_image path)) (listed (task_of s g₀ g₁))
+    pub each_once : (φ : ℕ → ℕ) → Placement s g₀ g₁ φ → count (shows_ids φ) (listed (task_of s g₀ g₁)) ≡ 1
     -- whatever the limit and the record
-    pub found-places : (budget : ℕ) (r : Record) → acceptedRecord (task_of s g₀ g₁) r ≡ true
+    pub found_places : (budget : ℕ) (r : Record) → accepted_record (task_of s g₀ g₁) r ≡ true
         → (continue (task_of s g₀ g₁) budget r).answer ≡ Found
-        → Placement s g₀ g₁ (idImage (continue (task_of s g₀ g₁) budget r).record'.path)
+        → Placement s g₀ g₁ (id_image (continue (task_of s g₀ g₁) budget r).record'.path)
 
 -- a graph is listed in itself, a chain of listed placements is listed, and under Equal the reverse of one
 pub record SymmetriesListed (s : Settings) : Type 0 where
-  pub identity-listed : (g : Graph) → AcceptedFile g → count (showsIds s g g (λ a. a)) (listed (task_of s g g)) ≡ 1
-  pub chain-listed : (g₀ g₁ g₂ : Graph) (φ ψ : ℕ → ℕ) → OfOneKind g₀ g₁ → OfOneKind g₁ g₂ → graphsAgree s g₀ g₁ ≡ true
-      → graphsAgree s g₁ g₂ ≡ true
-      → Placement s g₀ g₁ φ → Placement s g₁ g₂ ψ → count (showsIds s g₀ g₂ (λ a. φ (ψ a))) (listed (task_of s g₀ g₂)) ≡ 1
-  pub reverse-listed : (g₀ g₁ : Graph) (φ : ℕ → ℕ) → s.greater ≡ false → OfOneKind g₀ g₁ → graphsAgree s g₀ g₁ ≡ true
-      → Placement s g₀ g₁ φ → count (showsIds s g₁ g₀ (reverse (nodes g₁) φ)) (listed (task_of s g₁ g₀)) ≡ 1
+  pub identity_listed : (g : Graph) → AcceptedFile g → count (shows_ids s g g (λ a. a)) (listed (task_of s g g)) ≡ 1
+  pub chain_listed : (g₀ g₁ g₂ : Graph) (φ ψ : ℕ → ℕ) → OfOneKind g₀ g₁ → OfOneKind g₁ g₂ → graphs_agree s g₀ g₁ ≡ true
+      → graphs_agree s g₁ g₂ ≡ true
+      → Placement s g₀ g₁ φ → Placement s g₁ g₂ ψ → count (shows_ids s g₀ g₂ (λ a. φ (ψ a))) (listed (task_of s g₀ g₂)) ≡ 1
+  pub reverse_listed : (g₀ g₁ : Graph) (φ : ℕ → ℕ) → s.greater ≡ false → OfOneKind g₀ g₁ → graphs_agree s g₀ g₁ ≡ true
+      → Placement s g₀ g₁ φ → count (shows_ids s g₁ g₀ (reverse (nodes g₁) φ)) (listed (task_of s g₁ g₀)) ≡ 1

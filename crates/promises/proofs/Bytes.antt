@@ -10,55 +10,55 @@ use lib.Seq.{get_or_at, get_or-append-add, drop-append_seam}
 use borrow.Author.Tests.{eqb-true, eq-eqb}
 use Rattle.basics.specs.Lists.{member}
 use Rattle.basics.proofs.Tests.{case, and_intro, never}
-use Rattle.basics.proofs.Laws.{member-nil, member-head, member-tail, member-cases, getD-zeros}
+use Rattle.basics.proofs.Laws.{member-nil, member-head, member-tail, member-cases, get_or-zeros}
 use Rattle.packed.specs.Graph.{Graph}
 use Rattle.settings.specs.Settings.{Settings}
-use Rattle.order.specs.Order.{nodeOrder}
+use Rattle.order.specs.Order.{node_order}
 use Rattle.order.specs.Paper.{written}
 use Rattle.rules.specs.Task.{Task, exchange}
-use Rattle.rules.specs.Search.{Record, acceptedRecord}
-use Rattle.rules.specs.Handed.{chosen, recordOf, inOrder, pathBytes, handed, zeroBeyond, acceptedHanded}
-use Rattle.rules.specs.Calls.{idPairs}
+use Rattle.rules.specs.Search.{Record, accepted_record}
+use Rattle.rules.specs.Handed.{chosen, record_of, in_order, path_bytes, handed, zero_beyond, accepted_handed}
+use Rattle.rules.specs.Calls.{id_pairs}
 use Rattle.rules.proofs.Handed.{in-order-length, path-bytes-back}
 use Rattle.placements.proofs.Tests.{all-intro, all-elim}
-use Rattle.promises.specs.Sessions.{Map, mapIn, image}
+use Rattle.promises.specs.Sessions.{Map, map_in, image}
 
 -- Records
 
 beyond-at : (before : List ℕ) (k i : ℕ) → length before ≤ i → get_or (before ++ replicate k 0) i 0 ≡ 0
 beyond-at before k i h =
     let sum : i ≡ length before + (i - length before) = omega arith in
-    rw sum (get_or-append-add before (replicate k 0) (i - length before) 0 ∙ getD-zeros k (i - length before))
+    rw sum (get_or-append-add before (replicate k 0) (i - length before) 0 ∙ get_or-zeros k (i - length before))
 
-chosen-in-order : (path z : List ℕ) → chosen (length path) (inOrder path ++ z) ≡ path
-unfolding chosen inOrder
+chosen-in-order : (path z : List ℕ) → chosen (length path) (in_order path ++ z) ≡ path
+unfolding chosen in_order
 chosen-in-order [] z = refl
 chosen-in-order (x ∷ path) z =
-    rw (append_assoc (inOrder path) (x ∷ []) z)
-    (λ i. get_or_at (inOrder path) x z 0 (length path) (in-order-length path) i ∷ chosen-in-order path (x ∷ z) i)
+    rw (append_assoc (in_order path) (x ∷ []) z)
+    (λ i. get_or_at (in_order path) x z 0 (length path) (in-order-length path) i ∷ chosen-in-order path (x ∷ z) i)
 
 -- handed over and back
-pub record-again : (r : Record) → recordOf (handed r) ≡ r
+pub record-again : (r : Record) → record_of (handed r) ≡ r
 record-again r =
     λ i. record { path = chosen-in-order r.path (replicate (128 - length r.path) 0) i; top = r.top; accepted = r.accepted }
 
-handed-zero : (path : List ℕ) → zeroBeyond (length path) (pathBytes path) ≡ true
+handed-zero : (path : List ℕ) → zero_beyond (length path) (path_bytes path) ≡ true
 handed-zero path =
-    all-intro (λ i. eqb (get_or (pathBytes path) i 0) 0) (128 - length path) (length path)
+    all-intro (λ i. eqb (get_or (path_bytes path) i 0) 0) (128 - length path) (length path)
     (λ i l m.
-    eq-eqb (get_or (pathBytes path) i 0) 0 (beyond-at (inOrder path) (128 - length path) i (omega (arith, in-order-length path))))
+    eq-eqb (get_or (path_bytes path) i 0) 0 (beyond-at (in_order path) (128 - length path) i (omega (arith, in-order-length path))))
 
-pub accepted-handed : (t : Task) (r : Record) → acceptedRecord t r ≡ true → acceptedHanded t (handed r) ≡ true
-accepted-handed t r e = and_intro (handed-zero r.path) (ap (acceptedRecord t) (record-again r) ∙ e)
+pub accepted-handed : (t : Task) (r : Record) → accepted_record t r ≡ true → accepted_handed t (handed r) ≡ true
+accepted-handed t r e = and_intro (handed-zero r.path) (ap (accepted_record t) (record-again r) ∙ e)
 
-pub bytes-again : (d : ℕ) (path : List ℕ) → length path ≡ 128 → d ≤ 128 → zeroBeyond d path ≡ true → pathBytes (chosen d path) ≡ path
+pub bytes-again : (d : ℕ) (path : List ℕ) → length path ≡ 128 → d ≤ 128 → zero_beyond d path ≡ true → path_bytes (chosen d path) ≡ path
 bytes-again d path long most zero' =
     path-bytes-back d path long most
     (λ i l m. eqb-true (get_or path i 0) 0 (all-elim (λ i. eqb (get_or path i 0) 0) (128 - d) d zero' i l (omega arith)))
 
-pub handed-length : (path : List ℕ) → length path ≤ 128 → length (pathBytes path) ≡ 128
+pub handed-length : (path : List ℕ) → length path ≤ 128 → length (path_bytes path) ≡ 128
 handed-length path h =
-    length-append (inOrder path) (replicate (128 - length path) 0)
+    length-append (in_order path) (replicate (128 - length path) 0)
     ∙ omega (arith, in-order-length path, length-zeros (128 - length path))
   where
     length-zeros : (n : ℕ) → length {A = ℕ} (replicate n 0) ≡ n
@@ -68,15 +68,15 @@ handed-length path h =
 
 module _ (s : Settings) (g₀ g₁ : Graph) where
   abbrev pub ids : ℕ × ℕ → ℕ × ℕ
-  ids p = (get_or (nodeOrder s.vf2pp g₀) p.0 0, get_or (nodeOrder s.vf2pp g₁) p.1 0)
+  ids p = (get_or (node_order s.vf2pp g₀) p.0 0, get_or (node_order s.vf2pp g₁) p.1 0)
 
-  pub map_read : (ps : List (ℕ × ℕ)) (rest : List ℕ) → mapIn (length ps) (idPairs s g₀ g₁ ps ++ rest) ≡ map ids ps
-  unfolding mapIn idPairs
+  pub map_read : (ps : List (ℕ × ℕ)) (rest : List ℕ) → map_in (length ps) (id_pairs s g₀ g₁ ps ++ rest) ≡ map ids ps
+  unfolding map_in id_pairs
   map_read [] rest = refl
   map_read (p ∷ ps) rest = ap (λ m. ids p ∷ m) (map_read ps rest)
 
-  pub pairs-length : (ps : List (ℕ × ℕ)) → length (idPairs s g₀ g₁ ps) ≡ 2 * length ps
-  unfolding idPairs
+  pub pairs-length : (ps : List (ℕ × ℕ)) → length (id_pairs s g₀ g₁ ps) ≡ 2 * length ps
+  unfolding id_pairs
   pairs-length [] = refl
   pairs-length (p ∷ ps) = ap (λ k. suc (suc k)) (pairs-length ps) ∙ omega arith
 

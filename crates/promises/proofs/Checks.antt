@@ -12,18 +12,18 @@ use borrow.Author.Tests.{eqb-true}
 use Rattle.basics.specs.Lists.{count}
 use Rattle.basics.proofs.Tests.{case, none-not-some}
 use Rattle.basics.proofs.Laws.{count-nil, count-cons}
-use Rattle.packed.specs.Packed.{nodeCount, graph_of}
+use Rattle.packed.specs.Packed.{node_count, graph_of}
 use Rattle.packed.specs.Refusals.{Refused, first}
-use Rattle.settings.specs.Settings.{settingsOf}
+use Rattle.settings.specs.Settings.{settings_of}
 use Rattle.packed.proofs.Accepted.{nodes-of-graph}
-use Rattle.rules.specs.Calls.{yes, no, rejected, checkLines, Proposes, Judged, CheckTells}
+use Rattle.rules.specs.Calls.{yes, no, rejected, check_lines, Proposes, Judged, CheckTells}
 use Rattle.placements.specs.Claims.{Each}
 use Rattle.placements.proofs.Tests.{all-elim}
 use Rattle.promises.specs.Sessions.{Map, image, shows}
 use Rattle.promises.specs.Promises.{ListingMade, all_of, CountsAgree, Places, IsPlacement, HoldEveryPlacement, CheckAgrees}
 use Rattle.promises.proofs.Maps.{placement-same}
 use Rattle.promises.proofs.Listing.{begun-free, holds-every-placement}
-use Rattle.promises.proofs.Symmetries.{listing-made}
+use Rattle.promises.proofs.Symmetries.{listing_made}
 
 yes-no : {C : Type 0} → yes ≡ no → C
 yes-no e = let z : ◌≡◌ {A = ℕ} 0 1 = cc in absurd (omega arith)
@@ -58,15 +58,15 @@ module _ {A : Type 0} (P : A → Type 0) (p : A → Bool) where
 
 module _ (f₀ f₁ s : List ℕ) where
   -- what a placement's map shows is a placement
-  shown-places : (φ : ℕ → ℕ) (m : Map) → IsPlacement f₀ f₁ s m → shows (nodeCount f₁) φ m ≡ true → Places f₀ f₁ s φ
+  shown-places : (φ : ℕ → ℕ) (m : Map) → IsPlacement f₀ f₁ s m → shows (node_count f₁) φ m ≡ true → Places f₀ f₁ s φ
   shown-places φ m p e =
-      placement-same (settingsOf s) (graph_of f₀) (graph_of f₁) (image m) φ
+      placement-same (settings_of s) (graph_of f₀) (graph_of f₁) (image m) φ
       (λ v l.
       eqb-true (image m v) (φ v)
-      (all-elim (λ v. eqb (image m v) (φ v)) (nodeCount f₁) 0 e v (omega arith) (omega (arith, nodes-of-graph f₁))))
+      (all-elim (λ v. eqb (image m v) (φ v)) (node_count f₁) 0 e v (omega arith) (omega (arith, nodes-of-graph f₁))))
       p.places
 
-  module _ (map' : List ℕ) (l : ListingMade f₀ f₁ s) (free : first (checkLines f₀ f₁ s map') ≡ none) (agreed : CountsAgree f₀ f₁ s) where
+  module _ (map' : List ℕ) (l : ListingMade f₀ f₁ s) (free : first (check_lines f₀ f₁ s map') ≡ none) (agreed : CountsAgree f₀ f₁ s) where
     abbrev φ : ℕ → ℕ
     φ v = get_or map' v 0
 
@@ -75,30 +75,30 @@ module _ (f₀ f₁ s : List ℕ) where
 
     holds : HoldEveryPlacement f₀ f₁ s maps
     holds =
-        rw (listing-made f₀ f₁ s agreed l)
-        (holds-every-placement f₀ f₁ s (begun-free f₀ f₁ s l.first-record l.begins) agreed)
+        rw (listing_made f₀ f₁ s agreed l)
+        (holds-every-placement f₀ f₁ s (begun-free f₀ f₁ s l.first_record l.begins) agreed)
 
-    yes-listed : CheckTells f₀ f₁ s map' yes ↔ (count (shows (nodeCount f₁) φ) maps ≡ 1)
-    yes-listed =
-        let judged = judged-yes (first (checkLines f₀ f₁ s map')) (Places f₀ f₁ s φ) in (
-          λ e. holds.each-once φ (judged.0 e).1,
+    yes_listed : CheckTells f₀ f₁ s map' yes ↔ (count (shows (node_count f₁) φ) maps ≡ 1)
+    yes_listed =
+        let judged = judged-yes (first (check_lines f₀ f₁ s map')) (Places f₀ f₁ s φ) in (
+          λ e. holds.each_once φ (judged.0 e).1,
           λ c.
-              let m = one_passes (IsPlacement f₀ f₁ s) (shows (nodeCount f₁) φ) maps holds.all-place c in
+              let m = one_passes (IsPlacement f₀ f₁ s) (shows (node_count f₁) φ) maps holds.all_place c in
               judged.1 (free, shown-places φ m.0 m.1 m.2),
         )
 
-    no-listed : CheckTells f₀ f₁ s map' no ↔ (count (shows (nodeCount f₁) φ) maps ≡ 0)
-    no-listed =
-        let judged = judged-no (first (checkLines f₀ f₁ s map')) (Places f₀ f₁ s φ) in (
-          λ e. none_pass (IsPlacement f₀ f₁ s) (shows (nodeCount f₁) φ) maps holds.all-place (λ m p q. (judged.0 e).1 (shown-places φ m p q)),
-          λ c. judged.1 (free, λ p. let one = holds.each-once φ p in omega arith),
+    no_listed : CheckTells f₀ f₁ s map' no ↔ (count (shows (node_count f₁) φ) maps ≡ 0)
+    no_listed =
+        let judged = judged-no (first (check_lines f₀ f₁ s map')) (Places f₀ f₁ s φ) in (
+          λ e. none_pass (IsPlacement f₀ f₁ s) (shows (node_count f₁) φ) maps holds.all_place (λ m p q. (judged.0 e).1 (shown-places φ m p q)),
+          λ c. judged.1 (free, λ p. let one = holds.each_once φ p in omega arith),
         )
 
 pub check-agrees : CheckAgrees
 check-agrees =
     record {
-      yes-exactly = λ f₀ f₁ s map'. judged-yes (first (checkLines f₀ f₁ s map')) (Proposes f₀ f₁ s map');
-      no-exactly = λ f₀ f₁ s map'. judged-no (first (checkLines f₀ f₁ s map')) (Proposes f₀ f₁ s map');
-      yes-listed = λ f₀ f₁ s map' l free agreed. yes-listed f₀ f₁ s map' l free agreed;
-      no-listed = λ f₀ f₁ s map' l free agreed. no-listed f₀ f₁ s map' l free agreed;
+      yes_exactly = λ f₀ f₁ s map'. judged-yes (first (check_lines f₀ f₁ s map')) (Proposes f₀ f₁ s map');
+      no_exactly = λ f₀ f₁ s map'. judged-no (first (check_lines f₀ f₁ s map')) (Proposes f₀ f₁ s map');
+      yes_listed = λ f₀ f₁ s map' l free agreed. yes_listed f₀ f₁ s map' l free agreed;
+      no_listed = λ f₀ f₁ s map' l free agreed. no_listed f₀ f₁ s map' l free agreed;
     }

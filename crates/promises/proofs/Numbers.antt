@@ -10,22 +10,22 @@ use native.Mathlib.Omega.{arith}
 use lib.Dec.{eqb}
 use lib.ListN.{length}
 use borrow.Author.Tests.{not-false}
-use Rattle.basics.proofs.Tests.{case, option-case, none-not-some, never}
+use Rattle.basics.proofs.Tests.{case, option_case, none-not-some, never}
 use Rattle.basics.proofs.Decides.{decides-itself, decides-equal, decides-less, decides_not}
 use Rattle.packed.specs.Graph.{Graph}
-use Rattle.packed.specs.Packed.{kind, nodeCount, graph_of}
-use Rattle.packed.specs.Refusals.{Refused, Line, line, first, fileLines}
+use Rattle.packed.specs.Packed.{kind, node_count, graph_of}
+use Rattle.packed.specs.Refusals.{Refused, Line, line, first, file_lines}
 use Rattle.packed.specs.Table.{Says}
-use Rattle.packed.proofs.First.{first-before, first-behind, none-of-nil, none-of-cons, none-for-cons, none-of-both, no_line, numbered, fileTests}
+use Rattle.packed.proofs.First.{first-before, first-behind, none-of-nil, none-of-cons, none-for-cons, none-of-both, no_line, numbered, file_tests}
 use Rattle.packed.proofs.Table.{accepted-exactly}
-use Rattle.settings.specs.Settings.{Settings, settingsLines}
+use Rattle.settings.specs.Settings.{Settings, settings_lines}
 use Rattle.settings.specs.Table.{NotSettings}
 use Rattle.settings.proofs.Table.{settings-refused-exactly, settings-accepted-exactly}
 use Rattle.rules.specs.Search.{started}
-use Rattle.rules.specs.Handed.{Handed, handed, acceptedHanded}
-use Rattle.rules.specs.Calls.{kindLines, pairLines, recordLines, refused, orBegun, orWent, rejected, Judged}
+use Rattle.rules.specs.Handed.{Handed, handed, accepted_handed}
+use Rattle.rules.specs.Calls.{kind_lines, pair_lines, record_lines, refused, or_begun, or_went, rejected, Judged}
 use Rattle.placements.specs.Claims.{Each}
-use Rattle.promises.specs.Promises.{search, refusalOf, refusal, FilesRead, Readable, NumbersExactly}
+use Rattle.promises.specs.Promises.{search, refusal_of, refusal, FilesRead, Readable, NumbersExactly}
 use Rattle.promises.proofs.Files.{file-read, begins}
 
 -- no line has this number
@@ -44,7 +44,7 @@ not-given n (l ∷ ls) w r e k =
 behind-exactly : (n : ℕ) (ls ms : List Line) → Without n ls
     → (first (ls ++ ms) ≡ some (refusal n)) ↔ ((first ls ≡ none) × (first ms ≡ some (refusal n)))
 behind-exactly n ls ms w = (
-  λ e. option-case (first ls)
+  λ e. option_case (first ls)
       (λ h. (h, sym (first-behind ls ms h) ∙ e))
       (λ r h. absurd (not-given n ls w r h (let z : some r ≡ some (refusal n) = sym (first-before ls ms r h) ∙ e in cc z))),
   λ h. first-behind ls ms h.0 ∙ h.1,
@@ -71,21 +71,21 @@ numbers-below : (n m file : ℕ) (tests : List Bool) → m + length tests ≤ n 
 numbers-below n m file [] l = tt
 numbers-below n m file (b ∷ bs) l = (λ e. omega arith, numbers-below n (suc m) file bs (omega arith))
 
-file-numbers : (n file : ℕ) (f : List ℕ) → 6 < n → Without n (fileLines file f)
-unfolding fileLines
-file-numbers n file f l = numbers-below n 1 file (fileTests f) (omega arith)
+file-numbers : (n file : ℕ) (f : List ℕ) → 6 < n → Without n (file_lines file f)
+unfolding file_lines
+file-numbers n file f l = numbers-below n 1 file (file_tests f) (omega arith)
 
-settings-numbers : (n : ℕ) (s : List ℕ) → (8 ≡ n → ⊥) → Without n (settingsLines s)
-unfolding settingsLines
+settings-numbers : (n : ℕ) (s : List ℕ) → (8 ≡ n → ⊥) → Without n (settings_lines s)
+unfolding settings_lines
 settings-numbers n s other = (other, tt)
 
-pair-numbers : (n : ℕ) (f₀ f₁ s : List ℕ) → 8 < n → Without n (pairLines f₀ f₁ s)
+pair-numbers : (n : ℕ) (f₀ f₁ s : List ℕ) → 8 < n → Without n (pair_lines f₀ f₁ s)
 pair-numbers n f₀ f₁ s l =
-    without-both n (fileLines 0 f₀) _ (file-numbers n 0 f₀ (omega arith))
-    (without-both n (fileLines 1 f₁) _ (file-numbers n 1 f₁ (omega arith)) (λ e. omega arith, settings-numbers n s (λ e. omega arith)))
+    without-both n (file_lines 0 f₀) _ (file-numbers n 0 f₀ (omega arith))
+    (without-both n (file_lines 1 f₁) _ (file-numbers n 1 f₁ (omega arith)) (λ e. omega arith, settings-numbers n s (λ e. omega arith)))
 
 -- what the lines say of a file
-file-none : (file : ℕ) (f : List ℕ) → (first (fileLines file f) ≡ none) ↔ ((k : ℕ) → Says k f → ⊥)
+file-none : (file : ℕ) (f : List ℕ) → (first (file_lines file f) ≡ none) ↔ ((k : ℕ) → Says k f → ⊥)
 file-none file f =
     let exactly = accepted-exactly file f in
     (λ e. exactly.0 (file-read file f e), λ h. no_line file f (graph_of f) (exactly.1 h))
@@ -100,20 +100,20 @@ module _ (f₀ f₁ s : List ℕ) where
   kinds-same : (kinds ≡ false) ↔ (kind f₀ ≡ kind f₁)
   kinds-same = Iff.trans (not-not (eqb (kind f₀) (kind f₁))) (decides-equal (kind f₀) (kind f₁))
 
-  files-first : (n : ℕ) → 6 < n → (P : Type 0) → (first (line 7 0 kinds ∷ settingsLines s) ≡ some (refusal n)) ↔ P
-      → (first (pairLines f₀ f₁ s) ≡ some (refusal n)) ↔ (FilesRead f₀ f₁ × P)
+  files-first : (n : ℕ) → 6 < n → (P : Type 0) → (first (line 7 0 kinds ∷ settings_lines s) ≡ some (refusal n)) ↔ P
+      → (first (pair_lines f₀ f₁ s) ≡ some (refusal n)) ↔ (FilesRead f₀ f₁ × P)
   files-first n l P rest =
-      let outer = behind-exactly n (fileLines 0 f₀) (kindLines (kind f₀) f₁ s) (file-numbers n 0 f₀ l) in
-      let inner = behind-exactly n (fileLines 1 f₁) (line 7 0 kinds ∷ settingsLines s) (file-numbers n 1 f₁ l) in (
+      let outer = behind-exactly n (file_lines 0 f₀) (kind_lines (kind f₀) f₁ s) (file-numbers n 0 f₀ l) in
+      let inner = behind-exactly n (file_lines 1 f₁) (line 7 0 kinds ∷ settings_lines s) (file-numbers n 1 f₁ l) in (
         λ e. let a = outer.0 e in let b = inner.0 a.1 in (((file-none 0 f₀).0 a.0, (file-none 1 f₁).0 b.0), rest.0 b.1),
         λ h. outer.1 ((file-none 0 f₀).1 h.0.0, inner.1 ((file-none 1 f₁).1 h.0.1, rest.1 h.1)),
       )
 
-  pair-none : (first (pairLines f₀ f₁ s) ≡ none) ↔ Readable f₀ f₁ s
+  pair-none : (first (pair_lines f₀ f₁ s) ≡ none) ↔ Readable f₀ f₁ s
   pair-none =
-      let outer = behind-none (fileLines 0 f₀) (kindLines (kind f₀) f₁ s) in
-      let inner = behind-none (fileLines 1 f₁) (line 7 0 kinds ∷ settingsLines s) in
-      let last = line-none 7 kinds (settingsLines s) in (
+      let outer = behind-none (file_lines 0 f₀) (kind_lines (kind f₀) f₁ s) in
+      let inner = behind-none (file_lines 1 f₁) (line 7 0 kinds ∷ settings_lines s) in
+      let last = line-none 7 kinds (settings_lines s) in (
         λ e. let a = outer.0 e in let b = inner.0 a.1 in let c = last.0 b.1 in
             (((file-none 0 f₀).0 a.0, (file-none 1 f₁).0 b.0), kinds-same.0 c.0, (settings-accepted-exactly s).0 c.1),
         λ h. outer.1 (
@@ -125,43 +125,43 @@ module _ (f₀ f₁ s : List ℕ) where
         ),
       )
 
-  seventh : (first (line 7 0 kinds ∷ settingsLines s) ≡ some (refusal 7)) ↔ (kind f₀ ≡ kind f₁ → ⊥)
+  seventh : (first (line 7 0 kinds ∷ settings_lines s) ≡ some (refusal 7)) ↔ (kind f₀ ≡ kind f₁ → ⊥)
   seventh =
-      Iff.trans (line-exactly 7 kinds (settingsLines s) (settings-numbers 7 s (λ e. omega arith))) (decides_not (decides-equal (kind f₀) (kind f₁)))
+      Iff.trans (line-exactly 7 kinds (settings_lines s) (settings-numbers 7 s (λ e. omega arith))) (decides_not (decides-equal (kind f₀) (kind f₁)))
 
-  eighth : (first (line 7 0 kinds ∷ settingsLines s) ≡ some (refusal 8)) ↔ ((kind f₀ ≡ kind f₁) × NotSettings s)
-  eighth = Iff.trans (behind-exactly 8 (line 7 0 kinds ∷ []) (settingsLines s) (λ e. omega arith, tt))
+  eighth : (first (line 7 0 kinds ∷ settings_lines s) ≡ some (refusal 8)) ↔ ((kind f₀ ≡ kind f₁) × NotSettings s)
+  eighth = Iff.trans (behind-exactly 8 (line 7 0 kinds ∷ []) (settings_lines s) (λ e. omega arith, tt))
       (Iff.and (Iff.trans (line-none 7 kinds []) (λ h. kinds-same.0 h.0, λ e. (kinds-same.1 e, none-of-nil))) (settings-refused-exactly s))
 
   -- lines that come behind those of files and settings
   behind-pair : (n : ℕ) → 8 < n → (ms : List Line) (P : Type 0) → (first ms ≡ some (refusal n)) ↔ P
-      → (first (pairLines f₀ f₁ s ++ ms) ≡ some (refusal n)) ↔ (Readable f₀ f₁ s × P)
+      → (first (pair_lines f₀ f₁ s ++ ms) ≡ some (refusal n)) ↔ (Readable f₀ f₁ s × P)
   behind-pair n l ms P rest =
-      Iff.trans (behind-exactly n (pairLines f₀ f₁ s) ms (pair-numbers n f₀ f₁ s l)) (Iff.and pair-none rest)
+      Iff.trans (behind-exactly n (pair_lines f₀ f₁ s) ms (pair-numbers n f₀ f₁ s l)) (Iff.and pair-none rest)
 
-  nine-passed : (h : Handed) → (first (line 9 0 (not (acceptedHanded (search f₀ f₁ s) h)) ∷ []) ≡ none) ↔ (acceptedHanded (search f₀ f₁ s) h ≡ true)
+  nine-passed : (h : Handed) → (first (line 9 0 (not (accepted_handed (search f₀ f₁ s) h)) ∷ []) ≡ none) ↔ (accepted_handed (search f₀ f₁ s) h ≡ true)
   nine-passed h =
-      let accepted = not-not (acceptedHanded (search f₀ f₁ s) h) in
+      let accepted = not-not (accepted_handed (search f₀ f₁ s) h) in
       Iff.trans (line-none 9 _ []) (λ a. accepted.0 a.0, λ a. (accepted.1 a, none-of-nil))
 
-  tenth : (h : Handed) (buffer : List ℕ) → (first (recordLines (search f₀ f₁ s) h (nodeCount f₁) buffer) ≡ some (refusal 10))
-      ↔ ((acceptedHanded (search f₀ f₁ s) h ≡ true) × (length buffer < 2 * nodeCount f₁))
+  tenth : (h : Handed) (buffer : List ℕ) → (first (record_lines (search f₀ f₁ s) h (node_count f₁) buffer) ≡ some (refusal 10))
+      ↔ ((accepted_handed (search f₀ f₁ s) h ≡ true) × (length buffer < 2 * node_count f₁))
   tenth h buffer =
-      let nine = line 9 0 (not (acceptedHanded (search f₀ f₁ s) h)) in
+      let nine = line 9 0 (not (accepted_handed (search f₀ f₁ s) h)) in
       Iff.trans (behind-exactly 10 (nine ∷ []) _ (λ e. omega arith, tt))
-      (Iff.and (nine-passed h) (Iff.trans (line-exactly 10 _ [] tt) (decides-less (length buffer) (2 * nodeCount f₁))))
+      (Iff.and (nine-passed h) (Iff.trans (line-exactly 10 _ [] tt) (decides-less (length buffer) (2 * node_count f₁))))
 
 flat : {A B C : Type 0} → (A × (B × C)) ↔ (A × B × C)
 flat = (λ h. (h.0, h.1.0, h.1.1), λ h. (h.0, (h.1, h.2)))
 
 -- what the calls answer where a line applies
 
-or-refused : (o : Option Refused) (r : Refused) → (orBegun o ≡ refused r) ↔ (o ≡ some r)
+or-refused : (o : Option Refused) (r : Refused) → (or_begun o ≡ refused r) ↔ (o ≡ some r)
 or-refused none r = (λ e. let z : ◌≡◌ {A = ℕ} 0 1 = cc in absurd (omega arith), none-not-some)
 or-refused (some q) r = (λ e. cc, λ e. cc)
 
 or-turned-away : (o : Option Refused) (set : Settings) (g₀ g₁ : Graph) (h : Handed) (budget : ℕ) (buffer : List ℕ) (r : Refused)
-    → (refusalOf (orWent o set g₀ g₁ h budget buffer) ≡ some r) ↔ (o ≡ some r)
+    → (refusal_of (or_went o set g₀ g₁ h budget buffer) ≡ some r) ↔ (o ≡ some r)
 or-turned-away none set g₀ g₁ h budget buffer r = (none-not-some, none-not-some)
 or-turned-away (some q) set g₀ g₁ h budget buffer r = Iff.rfl
 
@@ -175,18 +175,18 @@ or-rejected (some q) P r = (λ e. cc, λ e. cc)
 pub numbers-exactly : NumbersExactly
 numbers-exactly =
     record {
-      begun-exactly = λ f₀ f₁ s. Iff.trans (λ e. (begins f₀ f₁ s (handed started) e).0, ap orBegun) (pair-none f₀ f₁ s);
+      begun_exactly = λ f₀ f₁ s. Iff.trans (λ e. (begins f₀ f₁ s (handed started) e).0, ap or_begun) (pair-none f₀ f₁ s);
       seven = λ f₀ f₁ s. Iff.trans (or-refused _ (refusal 7)) (files-first f₀ f₁ s 7 (omega arith) _ (seventh f₀ f₁ s));
       eight = λ f₀ f₁ s. Iff.trans (or-refused _ (refusal 8)) (Iff.trans (files-first f₀ f₁ s 8 (omega arith) _ (eighth f₀ f₁ s)) flat);
       nine = λ f₀ f₁ s h budget buffer.
           Iff.trans (or-turned-away _ _ _ _ h budget buffer (refusal 9))
           (behind-pair f₀ f₁ s 9 (omega arith) _ _
-          (Iff.trans (line-exactly 9 _ _ (λ e. omega arith, tt)) (decides_not (decides-itself (acceptedHanded (search f₀ f₁ s) h)))));
+          (Iff.trans (line-exactly 9 _ _ (λ e. omega arith, tt)) (decides_not (decides-itself (accepted_handed (search f₀ f₁ s) h)))));
       ten = λ f₀ f₁ s h budget buffer.
           Iff.trans (or-turned-away _ _ _ _ h budget buffer (refusal 10))
           (Iff.trans (behind-pair f₀ f₁ s 10 (omega arith) _ _ (tenth f₀ f₁ s h buffer)) flat);
       eleven = λ f₀ f₁ s map'.
           Iff.trans (or-rejected _ _ (refusal 11))
           (behind-pair f₀ f₁ s 11 (omega arith) _ _
-          (Iff.trans (line-exactly 11 _ [] tt) (decides_not (decides-equal (length map') (nodeCount f₁)))));
+          (Iff.trans (line-exactly 11 _ [] tt) (decides_not (decides-equal (length map') (node_count f₁)))));
     }

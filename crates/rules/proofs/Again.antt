@@ -6,7 +6,7 @@ use mathlib.Core.List.{List, [], ◌∷◌, ◌++◌, append-nil}
 use mathlib.Core.Option.{none, some}
 use mathlib.Core.Path.{◌≡◌, refl, sym, ◌∙◌, ap}
 use native.Mathlib.Omega.{arith}
-use Rattle.basics.proofs.Tests.{case, option-case, none-not-some}
+use Rattle.basics.proofs.Tests.{case, option_case, none-not-some}
 use Rattle.rules.specs.Task.{Task}
 use Rattle.rules.specs.Search.{Record, Answer, Found, None, Limit, Paused, stops, step, Went, run, continue}
 use Rattle.rules.specs.Again.{Again, ended, ahead_of, again, found_at}
@@ -48,9 +48,9 @@ module _ (t : Task) where
 
   pub run-least : (b n : ℕ) (r : Record) → n ≤ (run t b n r).steps
   run-least zero n r =
-      option-case (stops t r) (λ e. rw (run-pauses t n r e) (omega arith)) (λ a e. rw (run-stops t 0 n r a e) (omega arith))
+      option_case (stops t r) (λ e. rw (run-pauses t n r e) (omega arith)) (λ a e. rw (run-stops t 0 n r a e) (omega arith))
   run-least (suc b) n r =
-      option-case (stops t r)
+      option_case (stops t r)
       (λ e. case (step t r.path r.top r.accepted).1
       (λ f. rw (run-finds t b n r e f) (omega arith))
       (λ f. rw (run-goes-on t b n r e f) (omega (arith, run-least b (suc n) (stepped r)))))
@@ -72,13 +72,13 @@ module _ (t : Task) where
 
   run-then : (b n m : ℕ) (r : Record) (k : ℕ) → (run t b n r).steps ≡ n + k → Then m r k (run t b n r)
   run-then zero n m r k s =
-      option-case (stops t r)
+      option_case (stops t r)
       (λ e. let z : k ≡ 0 = omega (arith, rw (run-pauses t n r e) at s) in
       let p : 0 + m ≡ m = omega arith in
       rw (run-pauses t n r e, z, p) (sym (ahead-of-none (again t m r))))
       (λ a e. let z : k ≡ 0 = omega (arith, rw (run-stops t 0 n r a e) at s) in rw (run-stops t 0 n r a e) (then-stops m r a k n e z))
   run-then (suc b) n m r k s =
-      option-case (stops t r)
+      option_case (stops t r)
       (λ e. case (step t r.path r.top r.accepted).1
       (λ f. let z : k ≡ 1 = omega (arith, rw (run-finds t b n r e f) at s) in
       let p : 1 + m ≡ suc m = omega arith in
@@ -103,7 +103,7 @@ module _ (t : Task) where
       → again t (a + b) r ≡ ahead_of (again t a r).maps (again t a r).steps (again t b (again t a r).record')
   again-parts zero b r =
       let s : 0 + b ≡ b = omega arith in
-      option-case (stops t r)
+      option_case (stops t r)
       (λ e. rw (again-pauses r e, s) (sym (ahead-of-none (again t b r))))
       (λ a e. rw (again-stops 0 r a e, s) (sym (ahead-of-none (again t b r))))
   again-parts (suc a) b r =
@@ -111,7 +111,7 @@ module _ (t : Task) where
       let here = again t a (stepped r) in
       let there = again t b here.record' in
       let sum : 1 + (here.steps + there.steps) ≡ 1 + here.steps + there.steps = omega arith in
-      option-case (stops t r)
+      option_case (stops t r)
       (λ e. case (step t r.path r.top r.accepted).1
       (λ f. rw (s, again-finds (a + b) r e f, again-finds a r e f, again-parts a b (stepped r), sum))
       (λ f. rw (s, again-goes-on (a + b) r e f, again-goes-on a r e f, again-parts a b (stepped r), sum)))
@@ -120,9 +120,9 @@ module _ (t : Task) where
   -- no more steps than the budget, and all of them where it pauses
   pub again-within : (b : ℕ) (r : Record) → (again t b r).steps ≤ b
   again-within zero r =
-      option-case (stops t r) (λ e. rw (again-pauses r e) (omega arith)) (λ a e. rw (again-stops 0 r a e) (omega arith))
+      option_case (stops t r) (λ e. rw (again-pauses r e) (omega arith)) (λ a e. rw (again-stops 0 r a e) (omega arith))
   again-within (suc b) r =
-      option-case (stops t r)
+      option_case (stops t r)
       (λ e. case (step t r.path r.top r.accepted).1
       (λ f. rw (again-finds b r e f) (omega (arith, again-within b (stepped r))))
       (λ f. rw (again-goes-on b r e f) (omega (arith, again-within b (stepped r)))))
@@ -131,7 +131,7 @@ module _ (t : Task) where
   pub again-used : (b : ℕ) (r : Record) → (again t b r).ending ≡ Paused → (again t b r).steps ≡ b
   again-used zero r p = omega (arith, again-within zero r)
   again-used (suc b) r p =
-      option-case (stops t r)
+      option_case (stops t r)
       (λ e. case (step t r.path r.top r.accepted).1
       (λ f. rw (again-finds b r e f) (omega (arith, again-used b (stepped r) (rw (again-finds b r e f) at p))))
       (λ f. rw (again-goes-on b r e f) (omega (arith, again-used b (stepped r) (rw (again-goes-on b r e f) at p)))))
@@ -140,11 +140,11 @@ module _ (t : Task) where
   -- where it did not pause it was stopped, and stays so
   pub again-stopped : (b : ℕ) (r : Record) (a : Answer) → (again t b r).ending ≡ a → (a ≡ Paused → ⊥) → stops t (again t b r).record' ≡ some a
   again-stopped zero r a is goes =
-      option-case (stops t r)
+      option_case (stops t r)
       (λ e. absurd (goes (sym (rw (again-pauses r e) at is))))
       (λ c e. rw (again-stops 0 r c e) (e ∙ ap some (rw (again-stops 0 r c e) at is)))
   again-stopped (suc b) r a is goes =
-      option-case (stops t r)
+      option_case (stops t r)
       (λ e. case (step t r.path r.top r.accepted).1
       (λ f. rw (again-finds b r e f) (again-stopped b (stepped r) a (rw (again-finds b r e f) at is) goes))
       (λ f. rw (again-goes-on b r e f) (again-stopped b (stepped r) a (rw (again-goes-on b r e f) at is) goes)))

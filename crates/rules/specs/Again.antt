@@ -50,5 +50,5 @@ abbrev pub permutations : ℕ → ℕ → ℕ
 permutations n k = total (falling n) (from 0 (suc k))
 
 -- (N0 + 2) times the sum of N0!/(N0-k)! for k from 0 to N1: from Start all steps together are at most so many
-abbrev pub mostSteps : ℕ → ℕ → ℕ
-mostSteps n₀ n₁ = (n₀ + 2) * permutations n₀ n₁
+abbrev pub most_steps : ℕ → ℕ → ℕ
+most_steps n₀ n₁ = (n₀ + 2) * permutations n₀ n₁

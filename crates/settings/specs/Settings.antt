@@ -9,8 +9,8 @@ pub record Settings : Type 0 where
   pub greater : Bool
   pub vf2pp : Bool
   pub induced : Bool
-  pub nodeLabels : Bool
-  pub edgeLabels : Bool
+  pub node_labels : Bool
+  pub edge_labels : Bool
   pub limit : Option ℕ
 
 -- ordering 2 bits (0 Equal, 1 Greater), node order 1, induced 1, compare node labels 1, compare edge labels 1,
@@ -18,37 +18,37 @@ pub record Settings : Type 0 where
 abbrev pub ordering : List ℕ → ℕ
 ordering s = field s 0 2
 
-abbrev pub isSet : List ℕ → ℕ → Bool
-isSet s o = eqb (field s o 1) 1
+abbrev pub is_set : List ℕ → ℕ → Bool
+is_set s o = eqb (field s o 1) 1
 
 abbrev pub limited : List ℕ → Bool
-limited s = isSet s 6
+limited s = is_set s 6
 
 abbrev pub spare : List ℕ → Bool
-spare s = isSet s 7
+spare s = is_set s 7
 
-abbrev pub limitField : List ℕ → ℕ
-limitField s = field s 8 32
+abbrev pub limit_field : List ℕ → ℕ
+limit_field s = field s 8 32
 
-unfoldable pub settingsOf : List ℕ → Settings
-settingsOf s =
+unfoldable pub settings_of : List ℕ → Settings
+settings_of s =
     record {
       greater = eqb (ordering s) 1;
-      vf2pp = isSet s 2;
-      induced = isSet s 3;
-      nodeLabels = isSet s 4;
-      edgeLabels = isSet s 5;
-      limit = cond (limited s) (some (limitField s)) none;
+      vf2pp = is_set s 2;
+      induced = is_set s 3;
+      node_labels = is_set s 4;
+      edge_labels = is_set s 5;
+      limit = cond (limited s) (some (limit_field s)) none;
     }
 
 -- 8: settings not 5 bytes, ordering 2 or 3, spare bit 1, limit over its maximum, or limit not zero with limited 0
-abbrev pub badSettings : List ℕ → Bool
-badSettings s =
+abbrev pub bad_settings : List ℕ → Bool
+bad_settings s =
     not (eqb (length s) 5)
     || (ltb 1 (ordering s)
     || (spare s
-    || (ltb 4294967294 (limitField s)
-    || (not (limited s) && not (eqb (limitField s) 0)))))
+    || (ltb 4294967294 (limit_field s)
+    || (not (limited s) && not (eqb (limit_field s) 0)))))
 
-unfoldable pub settingsLines : List ℕ → List Line
-settingsLines s = line 8 0 (badSettings s) ∷ []
+unfoldable pub settings_lines : List ℕ → List Line
+settings_lines s = line 8 0 (bad_settings s) ∷ []

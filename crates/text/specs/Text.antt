@@ -15,12 +15,12 @@ pub record Puts (text : List ℕ) (at : ℕ) (bytes after : List ℕ) (end : ℕ
   pub ends : end ≡ min (at + length bytes) (length text)
 
 -- the buffer with all of the bytes from a place on
-abbrev pub putWhole : List ℕ → ℕ → List ℕ → List ℕ
-putWhole text at bytes = take at text ++ bytes ++ drop (at + length bytes) text
+abbrev pub put_whole : List ℕ → ℕ → List ℕ → List ℕ
+put_whole text at bytes = take at text ++ bytes ++ drop (at + length bytes) text
 
 -- all of the bytes are put into the buffer from a place on; the text then goes to `end`
 pub record PutsWhole (text : List ℕ) (at : ℕ) (bytes after : List ℕ) (end : ℕ) : Type 0 where
-  pub holds : after ≡ putWhole text at bytes
+  pub holds : after ≡ put_whole text at bytes
   pub ends : end ≡ at + length bytes
 
 -- how many decimal digits a number has
@@ -48,16 +48,16 @@ abbrev pub pair_at : List ℕ → ℕ → List ℕ
 pair_at bytes i = pair (get_or bytes (2 * i) 0) (get_or bytes (2 * i + 1) 0)
 
 -- `map` and the pairs
-abbrev pub mapText : List ℕ → List ℕ
-mapText bytes = 109 ∷ 97 ∷ 112 ∷ flat_map (pair_at bytes) (from 0 (length bytes / 2))
+abbrev pub map_text : List ℕ → List ℕ
+map_text bytes = 109 ∷ 97 ∷ 112 ∷ flat_map (pair_at bytes) (from 0 (length bytes / 2))
 
 -- a map and a line feed
-abbrev pub mapLine : List ℕ → List ℕ
-mapLine bytes = mapText bytes ++ 10 ∷ []
+abbrev pub map_line : List ℕ → List ℕ
+map_line bytes = map_text bytes ++ 10 ∷ []
 
 -- a name, two numbers and a line feed
-abbrev pub lastLine : List ℕ → ℕ → ℕ → List ℕ
-lastLine name a b = name ++ field a ++ field b ++ 10 ∷ []
+abbrev pub last_line : List ℕ → ℕ → ℕ → List ℕ
+last_line name a b = name ++ field a ++ field b ++ 10 ∷ []
 
 -- the value of a hexadecimal digit, `0` to `9` or `a` to `f`; 16 of any other character
 unfoldable pub value_of : ℕ → ℕ

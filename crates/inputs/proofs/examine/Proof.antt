@@ -2,7 +2,7 @@
 use mathlib.Core.Path.{sym, ◌∙◌, ap}
 use borrow.Author.Rules.{rules}
 use Rattle.packed.specs.Packed.{kind}
-use Rattle.packed.specs.Paper.{readPaper}
+use Rattle.packed.specs.Paper.{read_paper}
 use Rattle.packed.proofs.Accepted.{Counted, counted, refused-line}
 use Rattle.inputs.proofs.Lines.{kind-below, first-refused, first-accepted}
 use Rattle.inputs.proofs.examine.Statement.{statement}
@@ -15,7 +15,7 @@ entry c = c.before.before.before.before.before.before
 file-counted : (c : tie.After-directed)
     → Counted (entry c).args.file0.now c.directed.given.0.0 c.directed.given.0.1.0 c.directed.given.0.1.1.0
 file-counted c =
-    counted 0 (entry c).args.file0.now _ _ _ (sym (ap readPaper c.directed.given.1) ∙ c.before.before.read-file.ensures)
+    counted 0 (entry c).args.file0.now _ _ _ (sym (ap read_paper c.directed.given.1) ∙ c.before.before.read-file.ensures)
 
 read-file-requires : tie.Need-read-file-requires
 read-file-requires c κs = search rules
@@ -32,7 +32,7 @@ examine-second-requires c κs = search rules
 returns : tie.Need-returns
 returns c =
     let a = c.before.before.before.before.before.before.before.args in
-    let r = sym (ap readPaper c.before.refusal.given.1) ∙ c.before.before.before.read-file.ensures in
+    let r = sym (ap read_paper c.before.refusal.given.1) ∙ c.before.before.before.read-file.ensures in
     first-refused a.file0.now a.file1.now a.settings.now _ (refused-line 0 a.file0.now _ r)
 
 returns-2 : tie.Need-returns-2
@@ -40,7 +40,7 @@ returns-2 c =
     let d = c.before.before in
     let a = (entry d).args in
     first-accepted a.file0.now a.file1.now a.settings.now _ _ _ (file-counted d) _
-    (c.examine-second.ensures (kind a.file0.now) (kind-below a.file0.now) (file-counted d).directed-is)
+    (c.examine-second.ensures (kind a.file0.now) (kind-below a.file0.now) (file-counted d).directed_is)
 
 pub examine-spec : {M : Type 1} → statement M
 examine-spec =

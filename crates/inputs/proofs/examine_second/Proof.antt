@@ -2,9 +2,9 @@
 -- lines in front of it do not apply.
 use mathlib.Core.Path.{sym, ◌∙◌, ap}
 use borrow.Author.Rules.{rules}
-use Rattle.packed.specs.Paper.{readPaper}
+use Rattle.packed.specs.Paper.{read_paper}
 use Rattle.packed.proofs.Accepted.{Counted, counted, refused-line}
-use Rattle.settings.specs.Paper.{settingsPaper}
+use Rattle.settings.specs.Paper.{settings_paper}
 use Rattle.inputs.proofs.Lines.{second-refused, kinds-differ, settings-bad, both-accepted}
 use Rattle.inputs.proofs.examine_second.Statement.{statement}
 use Rattle.inputs.proofs.examine_second.Tie as tie
@@ -16,7 +16,7 @@ entry c = c.before.before.before.before.before
 file-counted : (c : tie.After-directed)
     → Counted (entry c).args.file1.now c.directed.given.0.0 c.directed.given.0.1.0 c.directed.given.0.1.1.0
 file-counted c =
-    counted 1 (entry c).args.file1.now _ _ _ (sym (ap readPaper c.directed.given.1) ∙ c.before.before.read-file.ensures)
+    counted 1 (entry c).args.file1.now _ _ _ (sym (ap read_paper c.directed.given.1) ∙ c.before.before.read-file.ensures)
 
 read-file-requires : tie.Need-read-file-requires
 read-file-requires c κs = search rules
@@ -47,12 +47,12 @@ returns-2 c kind₀ small told =
     let d = c.before.before.before.before.before in
     let a = (entry d).args in
     settings-bad a.directed0 a.n0 a.edges0 kind₀ a.file1.now a.settings.now small told _ _ _ (file-counted d)
-    c.before.before.before.if1.false (sym (ap settingsPaper c.enum_told.given.1) ∙ c.before.before.read-settings.ensures)
+    c.before.before.before.if1.false (sym (ap settings_paper c.enum_told.given.1) ∙ c.before.before.read-settings.ensures)
 
 returns-3 : tie.Need-returns-3
 returns-3 c kind₀ small told =
     let a = c.before.before.before.before.before.before.args in
-    let r = sym (ap readPaper c.before.refusal.given.1) ∙ c.before.before.before.read-file.ensures in
+    let r = sym (ap read_paper c.before.refusal.given.1) ∙ c.before.before.before.read-file.ensures in
     second-refused a.directed0 a.n0 a.edges0 kind₀ a.file1.now a.settings.now _ (refused-line 1 a.file1.now _ r)
 
 returns-4 : tie.Need-returns-4
@@ -60,7 +60,7 @@ returns-4 c kind₀ small told =
     let d = c.before.before.before.before.before.before in
     let a = (entry d).args in
     both-accepted a.directed0 a.n0 a.edges0 kind₀ a.file1.now a.settings.now small told _ _ _ (file-counted d)
-    c.before.before.before.before.if1.false _ (sym (ap settingsPaper c.before.set.given.1) ∙ c.before.before.before.read-settings.ensures)
+    c.before.before.before.before.if1.false _ (sym (ap settings_paper c.before.set.given.1) ∙ c.before.before.before.read-settings.ensures)
 
 pub examine-second-spec : {M : Type 1} → statement M
 examine-second-spec =

@@ -1,6 +1,6 @@
 -- `list::list` is safe and ends: what is examined and accepted has the counts of both files.
 use mathlib.Core.Path.{sym, ◌∙◌, ap}
-use Rattle.inputs.specs.Inputs.{examinePaper}
+use Rattle.inputs.specs.Inputs.{examine_paper}
 use Rattle.inputs.proofs.Answered.{examined-accepted}
 use borrow.Author.Rules.{rules}
 use Rattle.list.proofs.list.Statement.{statement}
@@ -33,8 +33,8 @@ list-accepted-requires c κs =
     let a = known.before.before.before.before.before.before.args in
     let accepted =
     examined-accepted a.file0.now a.file1.now a.settings.now _ _ _ _ _ _
-    (sym (sym (ap examinePaper known.directed.given.1) ∙ known.before.before.examine.ensures)) in
-    rw c.rules-of.ensures (accepted.first-counts, accepted.second-counts)
+    (sym (sym (ap examine_paper known.directed.given.1) ∙ known.before.before.examine.ensures)) in
+    rw c.rules-of.ensures (accepted.first_counts, accepted.second_counts)
 
 returns : tie.Need-returns
 returns c = search rules

@@ -5,8 +5,8 @@ use mathlib.Core.Path.{◌≡◌, refl, sym}
 use native.Mathlib.Omega.{arith}
 use lib.ListN.{length, get_or}
 use borrow.Author.Rules.{rules}
-use Rattle.lookup.specs.Lent.{Lent, lent, taskIn}
-use Rattle.step.specs.Steps.{recordIn, Stands}
+use Rattle.lookup.specs.Lent.{Lent, lent, task_in}
+use Rattle.step.specs.Steps.{record_in, Stands}
 use Rattle.step.proofs.Followed.{few-nodes, begun-follows}
 use Rattle.batches.proofs.Listed.{batch-most}
 use Rattle.list.proofs.list_prepared.Statement.{statement}
@@ -30,7 +30,7 @@ abbrev start : tie.After-gather invariant-loop decreases-loop → tie.Start inva
 start c = c.before.before.before.before.before.before.before.before
 
 maps-most : (c : tie.After-gather invariant-loop decreases-loop) → c.gather.result.maps ≤ 128
-maps-most c = omega (arith, c.gather.ensures.maps-are, batch-most (taskIn (given (start c))) 65535 128 (recordIn c.before.before.before.before.before.loop.search))
+maps-most c = omega (arith, c.gather.ensures.maps_are, batch-most (task_in (given (start c))) 65535 128 (record_in c.before.before.before.before.before.loop.search))
 
 new-requires : tie.Need-new-requires invariant-loop decreases-loop
 new-requires c κs = search rules

@@ -8,18 +8,18 @@ use native.Mathlib.Omega.{arith}
 use Rattle.basics.specs.Lists.{from, any}
 use Rattle.basics.proofs.Laws.{from-left, from_end, any-nil, any-cons}
 use Rattle.bits.specs.Bits.{field}
-use Rattle.packed.specs.Packed.{edgeFrom, edgeOffset}
-use Rattle.packed.specs.Refusals.{namesUnknown}
+use Rattle.packed.specs.Packed.{edge_from, edge_offset}
+use Rattle.packed.specs.Refusals.{names_unknown}
 use Rattle.packed.proofs.has_unknown_node.Statement.{statement}
 use Rattle.packed.proofs.has_unknown_node.Tie as tie
 
 abbrev unknown : List ℕ → ℕ → ℕ → Bool
-unknown s nodes j = namesUnknown nodes (edgeFrom s (edgeOffset nodes j))
+unknown s nodes j = names_unknown nodes (edge_from s (edge_offset nodes j))
 
 module _ (s : List ℕ) (nodes : ℕ) where
   -- what the test of an edge says, at the edge's offset
-  tested : (j o source target : ℕ) (r : Bool) → o ≡ edgeOffset nodes j → source ≡ field s o 7 → target ≡ field s (o + 7) 7
-      → r ≡ namesUnknown nodes (record { source = source; target = target; label = 0 }) → r ≡ unknown s nodes j
+  tested : (j o source target : ℕ) (r : Bool) → o ≡ edge_offset nodes j → source ≡ field s o 7 → target ≡ field s (o + 7) 7
+      → r ≡ names_unknown nodes (record { source = source; target = target; label = 0 }) → r ≡ unknown s nodes j
   tested j o source target r at from to e = e ∙ rw (from, to, at)
 
   split : (j edges : ℕ) → j < edges → any (unknown s nodes) (from j (edges - j)) ≡ (unknown s nodes j || any (unknown s nodes) (from (j + 1) (edges - (j + 1))))

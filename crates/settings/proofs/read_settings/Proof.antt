@@ -9,7 +9,7 @@ use borrow.Author.Rules.{rules}
 use borrow.Author.Tests.{eqb-true, eqb-false, lt-ltb}
 use Rattle.basics.proofs.Tests.{case}
 use Rattle.settings.specs.Settings.{ordering}
-use Rattle.settings.specs.Paper.{orderingIn}
+use Rattle.settings.specs.Paper.{ordering_in}
 use Rattle.settings.specs.declared.Ordering.{Ordering}
 use Rattle.settings.specs.declared.Ordering.TheVariants.{Equal, Greater, Unknown}
 use Rattle.settings.proofs.Line.{wrong-length, unknown-ordering}
@@ -22,7 +22,7 @@ Says code Equal = (ltb 1 code ≡ false) × (false ≡ eqb code 1)
 Says code Greater = (ltb 1 code ≡ false) × (true ≡ eqb code 1)
 Says code Unknown = ltb 1 code ≡ true
 
-says : (code : ℕ) → Says code (orderingIn code)
+says : (code : ℕ) → Says code (ordering_in code)
 says code =
     case (eqb code 0)
     (λ e. rw (eqb-true code 0 e) (refl, refl))
@@ -32,7 +32,7 @@ says code =
     let b = eqb-false code 1 f in
     rw (e, f) (lt-ltb 1 code (omega arith))))
 
-said : (s : List ℕ) (code : ℕ) (told answered : Ordering) → code ≡ ordering s → answered ≡ orderingIn code → answered ≡ told → Says (ordering s) told
+said : (s : List ℕ) (code : ℕ) (told answered : Ordering) → code ≡ ordering s → answered ≡ ordering_in code → answered ≡ told → Says (ordering s) told
 said s code told answered e a t = rw (← t, a, e) (says (ordering s))
 
 -- what the ordering answered says of the bytes that are read

@@ -8,8 +8,8 @@ use mathlib.Core.Path.{◌≡◌, sym, ◌∙◌, ap}
 use lib.Dec.{eqb, ltb}
 use borrow.Author.Rules.{rules}
 use borrow.Author.Tests.{lt-ltb, le-ltb}
-use Rattle.settings.specs.Settings.{ordering, isSet, spare, limited, limitField, settingsOf}
-use Rattle.settings.specs.Paper.{settingsIn}
+use Rattle.settings.specs.Settings.{ordering, is_set, spare, limited, limit_field, settings_of}
+use Rattle.settings.specs.Paper.{settings_in}
 use Rattle.settings.specs.declared.Chosen.{Chosen}
 use Rattle.settings.proofs.Line.{spare-bit, limit-over, limit-unasked, all-passed}
 use Rattle.settings.proofs.read_switches.Statement.{statement}
@@ -28,17 +28,17 @@ entry-2 c = entry-1 c.before.before
 clear : (c : tie.Else1) → spare (text (entry-1 c)) ≡ false
 clear c = sym c.before.is_set.ensures ∙ c.if1.false
 
-most : (c : tie.Else2) → ltb 4294967294 (limitField (text (entry-2 c))) ≡ false
+most : (c : tie.Else2) → ltb 4294967294 (limit_field (text (entry-2 c))) ≡ false
 most c = rw (← c.before.number.ensures) (le-ltb 4294967294 c.before.number.result c.if2.false)
 
-tested : (s : List ℕ) (r b : Bool) (l : ℕ) → r ≡ (not b && not (eqb l 0)) → b ≡ limited s → l ≡ limitField s
-    → (not (limited s) && not (eqb (limitField s) 0)) ≡ r
+tested : (s : List ℕ) (r b : Bool) (l : ℕ) → r ≡ (not b && not (eqb l 0)) → b ≡ limited s → l ≡ limit_field s
+    → (not (limited s) && not (eqb (limit_field s) 0)) ≡ r
 tested s r b l e p q = rw (← p, ← q) (sym e)
 
-chosen : (s : List ℕ) (k : Chosen) → k.greater ≡ eqb (ordering s) 1 → k.plus_plus ≡ isSet s 2 → k.induced ≡ isSet s 3
-    → k.node_labels ≡ isSet s 4 → k.edge_labels ≡ isSet s 5 → k.limited ≡ isSet s 6 → k.limit ≡ limitField s
-    → settingsIn k ≡ settingsOf s
-unfolding settingsOf
+chosen : (s : List ℕ) (k : Chosen) → k.greater ≡ eqb (ordering s) 1 → k.plus_plus ≡ is_set s 2 → k.induced ≡ is_set s 3
+    → k.node_labels ≡ is_set s 4 → k.edge_labels ≡ is_set s 5 → k.limited ≡ is_set s 6 → k.limit ≡ limit_field s
+    → settings_in k ≡ settings_of s
+unfolding settings_of
 chosen s k e₀ e₂ e₃ e₄ e₅ e₆ e₇ = rw (e₀, e₂, e₃, e₄, e₅, e₆, e₇)
 
 is-set-requires : tie.Need-is-set-requires
