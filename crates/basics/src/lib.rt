@@ -1,4 +1,5 @@
 // The words that the definitions are written in, and their laws: specs/ has the words, proofs/ the laws.
+#![tactic(auto)]
 
 // What a search for a node finds.
 #[derive(Drop)]
