@@ -1,1 +1,2 @@
 // Laws: the search of the rules lists all placements.
+#![tactic(auto)]
