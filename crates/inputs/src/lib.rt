@@ -1,5 +1,6 @@
 // What is searched: two files and settings, through refusals 1 to 8 (document 01, "The five outer calls and what they turn away").
 #![tactic(auto)]
+
 ghost use Rattle.std.specs.Prelude.{◌≡◌};
 ghost use Rattle.inputs.specs.Inputs.{examine_says, examine_paper, SecondSays, rules_of};
 

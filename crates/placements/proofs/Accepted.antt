@@ -8,7 +8,7 @@ use borrow.Author.Tests.{le-leb}
 use Rattle.basics.proofs.Tests.{case, option_case, never, and_intro}
 use Rattle.packed.specs.Graph.{nodes}
 use Rattle.rules.specs.Task.{Task}
-use Rattle.rules.specs.Search.{Top, Outer, Inner, Unwind, Record, started, candidate_at, onward, accepts, above, raised, step, continue, accepted_path, top_offered, accepted_record}
+use Rattle.rules.specs.Search.{Top, Outer, Inner, Unwind, Record, started, candidate_at, accepts, above, raised, step, continue, accepted_path, top_offered, accepted_record}
 use Rattle.placements.specs.Listed.{whole}
 use Rattle.placements.specs.Claims.{Sound, AcceptedStays, EveryMapPlaces}
 use Rattle.rules.proofs.Runs.{run-keeps, run-found}

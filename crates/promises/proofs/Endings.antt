@@ -6,7 +6,7 @@ use native.Mathlib.Omega.{arith}
 use Rattle.basics.proofs.Tests.{and_right}
 use Rattle.packed.specs.Packed.{graph_of}
 use Rattle.settings.specs.Settings.{settings_of}
-use Rattle.rules.specs.Search.{Answer, Found, None, Limit, Paused, Went, continue, stops}
+use Rattle.rules.specs.Search.{Answer, Found, None, Limit, Paused, Went, continue}
 use Rattle.rules.specs.Handed.{Handed, record_of, handed, zero_beyond}
 use Rattle.rules.specs.Calls.{went, went_on, continue_says}
 use Rattle.rules.proofs.Runs.{run-stops, run-ended}

@@ -19,7 +19,7 @@ use Rattle.placements.proofs.Symmetries.{identity, chained, counts-chained, reve
 use Rattle.placements.proofs.Ids.{counts-own, counts-back}
 use Rattle.promises.specs.Sessions.{Map, image}
 use Rattle.promises.specs.Promises.{ListingMade, all_of, Begins, CountsAgree, Places, Finds, IsPlacement, maps_of_rules, ListedOnce, ChainedPlacements, IdentityAndReverse}
-use Rattle.promises.proofs.Files.{NotRefused, not_refused, no_line, of-one-kind, file-either}
+use Rattle.promises.proofs.Files.{NotRefused, no_line, of-one-kind, file-either}
 use Rattle.promises.proofs.Bytes.{image-back}
 use Rattle.promises.proofs.Continued.{map_of_path}
 use Rattle.promises.proofs.Maps.{placement-same, path-shows, Found', found, found_map, found-placement}

@@ -6,7 +6,7 @@ use mathlib.Core.List.{List, [], ◌∷◌, ◌++◌, append-nil}
 use mathlib.Core.Option.{none, some}
 use mathlib.Core.Path.{◌≡◌, refl, sym, ◌∙◌, ap}
 use native.Mathlib.Omega.{arith}
-use Rattle.basics.proofs.Tests.{case, option_case, none-not-some}
+use Rattle.basics.proofs.Tests.{case, option_case}
 use Rattle.rules.specs.Task.{Task}
 use Rattle.rules.specs.Search.{Record, Answer, Found, None, Limit, Paused, stops, step, Went, run, continue}
 use Rattle.rules.specs.Again.{Again, ended, ahead_of, again, found_at}
