@@ -1,0 +1,13 @@
+-- `text::put_fields` meets its contract. At the loop's head the fields of the first i bytes are put.
+use Prim.Native.Nat.{◌-◌, ◌≤◌}
+use mathlib.Core.Path.{◌≡◌}
+use lib.ListN.{length, take}
+use Rattle.text.specs.Text.{Puts, fields}
+use Rattle.text.proofs.put_fields.Given as goal
+
+abbrev pub invariant-loop-i : goal.invariant-loop-i
+invariant-loop-i l =
+    (l.i ≤ l.i-end) × (length l.text ≡ length l.initial.text) × Puts l.initial.text l.at (fields (take l.i l.bytes)) l.text l.end
+
+abbrev pub decreases-loop-i : goal.decreases-loop-i
+decreases-loop-i l = l.i-end - l.i
