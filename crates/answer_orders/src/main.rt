@@ -1,8 +1,11 @@
 // Answers cases of the outer calls Read and Order, one line for each; tests/README.md has their form.
+#![tactic(auto)]
 ghost use Rattle.std.specs.Prelude.{◌≤◌, length};
 
 use order::OrderAnswer;
 use packed::{ReadAnswer, Refusal};
+use std::io;
+use std::io::{Read, Write};
 
 const MAX_FILE: usize = 2800;
 
@@ -91,65 +94,88 @@ fn put_order(line: &mut [u8], answer: OrderAnswer) -> usize
     }
 }
 
-fn answer_read(file: &[u8]) -> bool {
+fn answer_read<W: Write>(out: &mut W, file: &[u8]) -> io::Result<()> {
     let mut line = [0u8; 2048];
     let at = put_read(&mut line, packed::read(file));
-    text::write_line(&mut line, at)
+    text::write_line(out, &mut line, at)
 }
 
-fn answer_order(file: &[u8], plus_plus: bool, buffer: &mut [u8]) -> bool {
+fn answer_order<W: Write>(
+    out: &mut W,
+    file: &[u8],
+    plus_plus: bool,
+    buffer: &mut [u8],
+) -> io::Result<()> {
     let mut line = [0u8; 2048];
     let at = put_order(&mut line, order::order(file, plus_plus, buffer));
     let whole = text::put_fields(&mut line, at, buffer);
-    text::write_line(&mut line, whole)
+    text::write_line(out, &mut line, whole)
 }
 
-fn answer(call: Call, buffer_length: usize, bytes: [u8; 2800], length: usize) -> bool
+// Answers a case. Is it one?
+fn answer<W: Write>(
+    out: &mut W,
+    call: Call,
+    buffer_length: usize,
+    bytes: [u8; 2800],
+    length: usize,
+) -> io::Result<bool>
     requires { length ≤ 2800 }
 {
     if MAX_BUFFER < buffer_length {
-        return text::bad_case();
+        return text::bad_case(out);
     }
     let file = &bytes[0..length];
     let mut space = [255u8; 256];
     let buffer = &mut space[0..buffer_length];
     match call {
-        Call::Read => answer_read(file),
-        Call::ById => answer_order(file, false, buffer),
-        Call::PlusPlus => answer_order(file, true, buffer),
-        Call::Unknown => text::bad_case(),
+        Call::Read => answer_read(out, file)?,
+        Call::ById => answer_order(out, file, false, buffer)?,
+        Call::PlusPlus => answer_order(out, file, true, buffer)?,
+        Call::Unknown => return text::bad_case(out),
     }
+    Ok(true)
 }
 
-// Reads the file of a case and answers the case.
-fn run(call: Call, buffer_length: usize, length: usize) -> bool {
+// Reads the file of a case and answers the case. Is it one?
+fn run<R: Read, W: Write>(
+    input: &mut R,
+    out: &mut W,
+    call: Call,
+    buffer_length: usize,
+    length: usize,
+) -> io::Result<bool> {
     if MAX_FILE < length {
-        return text::bad_case();
+        return text::bad_case(out);
     }
     let mut line = [0u8; 5601];
     let mut file = [0u8; 2800];
-    if !text::read_decoded(&mut line, &mut file, length) {
-        return text::bad_case();
+    if !text::read_decoded(input, &mut line, &mut file, length)? {
+        return text::bad_case(out);
     }
-    answer(call, buffer_length, file, length)
+    answer(out, call, buffer_length, file, length)
 }
 
 // Answers the next case. Is there one after it?
-fn next_case() -> bool {
+fn next_case<R: Read, W: Write>(input: &mut R, out: &mut W) -> io::Result<bool> {
     let mut header = [0u8; 16];
-    if !text::read_header(&mut header) {
-        return false;
+    if !text::read_header(input, out, &mut header)? {
+        return Ok(false);
     }
     let call = call_of(&header);
     let buffer_length = text::number(&header, 6, 4);
     let length = text::number(&header, 11, 4);
-    run(call, buffer_length, length)
+    run(input, out, call, buffer_length, length)
 }
 
-// Nothing says that the input ends, so the loop counts its turns down.
-fn main() {
-    let mut turns = u64::MAX;
-    while turns > 0 && next_case() {
-        turns -= 1;
+// Nothing says that the input ends, so the loop counts its turns.
+fn main(rt: HostRuntime) -> io::Result<()> {
+    let mut input = rt.stdin();
+    let mut out = io::writer(&rt);
+    for _ in 0..u64::MAX {
+        if !next_case(&mut input, &mut out)? {
+            break;
+        }
     }
+    Ok(())
 }

@@ -1,9 +1,12 @@
 // Answers cases of the outer calls Start, Continue and Check, and of listings by Start and Continue; tests/README.md has their form.
+#![tactic(auto)]
 ghost use Rattle.std.specs.Prelude.{◌+◌, ◌≤◌, length};
 
 use calls::{CheckAnswer, ContinueAnswer, StartAnswer};
 use packed::Refusal;
 use records::Record;
+use std::io;
+use std::io::{Read, Write};
 use step::Top;
 
 const MAX_FILE: usize = 2800;
@@ -166,31 +169,41 @@ fn put_end(line: &mut [u8], ending: &[u8], tally: Tally, accepted: u32) -> usize
     text::put_bytes(line, all, b"\n.")
 }
 
-fn print_map(map: &[u8]) -> bool {
+fn print_map<W: Write>(out: &mut W, map: &[u8]) -> io::Result<()> {
     let mut line = [0u8; 4096];
     let at = text::put_map(&mut line, 0, map);
-    text::write_line(&mut line, at)
+    text::write_line(out, &mut line, at)
 }
 
-fn print_end(ending: &[u8], tally: Tally, accepted: u32) -> bool {
+fn print_end<W: Write>(
+    out: &mut W,
+    ending: &[u8],
+    tally: Tally,
+    accepted: u32,
+) -> io::Result<()> {
     let mut line = [0u8; 4096];
     let at = put_end(&mut line, ending, tally, accepted);
-    text::write_line(&mut line, at)
+    text::write_line(out, &mut line, at)
 }
 
-fn print_refusal(refusal: Refusal, file: usize) -> bool {
+fn print_refusal<W: Write>(out: &mut W, refusal: Refusal, file: usize) -> io::Result<()> {
     let mut line = [0u8; 4096];
     let at = put_refusal(&mut line, refusal, file);
-    text::write_line(&mut line, at)
+    text::write_line(out, &mut line, at)
 }
 
-fn answer_start(file0: &[u8], file1: &[u8], settings: &[u8]) -> bool {
+fn answer_start<W: Write>(
+    out: &mut W,
+    file0: &[u8],
+    file1: &[u8],
+    settings: &[u8],
+) -> io::Result<()> {
     let started = calls::start(file0, file1, settings);
     let answer = started.answer;
     let fresh = started.fresh;
     let mut line = [0u8; 4096];
     let at = put_started(&mut line, answer, fresh);
-    text::write_line(&mut line, at)
+    text::write_line(out, &mut line, at)
 }
 
 // Two bytes as a number, the high one first.
@@ -235,16 +248,18 @@ fn record_of(given: &[u8]) -> Record
     }
 }
 
-fn answer_continue(
+// Answers a Continue. Has the case a record?
+fn answer_continue<W: Write>(
+    out: &mut W,
     file0: &[u8],
     file1: &[u8],
     settings: &[u8],
     given: &[u8],
     budget: u16,
     buffer: &mut [u8],
-) -> bool {
+) -> io::Result<bool> {
     if given.len() != RECORD {
-        return text::bad_case();
+        return text::bad_case(out);
     }
     let continued = calls::continue_search(
         file0,
@@ -261,27 +276,34 @@ fn answer_continue(
     let recorded = put_record(&mut line, at, after);
     let named = text::put_bytes(&mut line, recorded, b" buffer");
     let end = text::put_fields(&mut line, named, buffer);
-    text::write_line(&mut line, end)
+    text::write_line(out, &mut line, end)?;
+    Ok(true)
 }
 
-fn answer_check(file0: &[u8], file1: &[u8], settings: &[u8], map: &[u8]) -> bool {
+fn answer_check<W: Write>(
+    out: &mut W,
+    file0: &[u8],
+    file1: &[u8],
+    settings: &[u8],
+    map: &[u8],
+) -> io::Result<()> {
     let mut line = [0u8; 4096];
     let at = put_checked(&mut line, calls::check(file0, file1, settings, map));
-    text::write_line(&mut line, at)
+    text::write_line(out, &mut line, at)
 }
 
 // Nothing bounds a listing's length, so its numbers are sums that wrap.
 fn with_steps(tally: Tally, steps: usize) -> Tally {
     Tally {
         maps: tally.maps,
-        steps: std::num::wrapping_add_usize(tally.steps, steps),
+        steps: tally.steps.wrapping_add(steps),
         first: tally.first,
     }
 }
 
 fn with_map(tally: Tally) -> Tally {
     Tally {
-        maps: std::num::wrapping_add_usize(tally.maps, 1),
+        maps: tally.maps.wrapping_add(1),
         steps: tally.steps,
         first: if tally.maps == 0 {
             tally.steps
@@ -313,36 +335,38 @@ fn is_last(answer: ContinueAnswer, budget: u16) -> bool {
     }
 }
 
-// Writes what an answer adds to a listing. Was it written?
-fn print_listed(
+// Writes what an answer adds to a listing.
+fn print_listed<W: Write>(
+    out: &mut W,
     answer: ContinueAnswer,
     budget: u16,
     tally: Tally,
     accepted: u32,
     map: &[u8],
-) -> bool {
+) -> io::Result<()> {
     match answer {
-        ContinueAnswer::Found { steps: _ } => print_map(map),
-        ContinueAnswer::None { steps: _ } => print_end(b"none", tally, accepted),
-        ContinueAnswer::Limit { steps: _ } => print_end(b"limit", tally, accepted),
+        ContinueAnswer::Found { steps: _ } => print_map(out, map),
+        ContinueAnswer::None { steps: _ } => print_end(out, b"none", tally, accepted),
+        ContinueAnswer::Limit { steps: _ } => print_end(out, b"limit", tally, accepted),
         ContinueAnswer::Paused { steps: _ } => {
             if budget == 0 {
-                return print_end(b"paused", tally, accepted);
+                return print_end(out, b"paused", tally, accepted);
             }
-            true
+            Ok(())
         }
-        ContinueAnswer::Refused { refusal, file } => print_refusal(refusal, file),
+        ContinueAnswer::Refused { refusal, file } => print_refusal(out, refusal, file),
     }
 }
 
-// A whole listing, the same budget for each Continue. Nothing here says that it ends, so the loop counts its turns down.
-fn answer_list(
+// A whole listing, the same budget for each Continue. Nothing here says that it ends, so the loop counts its turns. Has it ended?
+fn answer_list<W: Write>(
+    out: &mut W,
     file0: &[u8],
     file1: &[u8],
     settings: &[u8],
     budget: u16,
     buffer: &mut [u8],
-) -> bool {
+) -> io::Result<bool> {
     let started = calls::start(file0, file1, settings);
     let mut after = started.fresh;
     let mut tally = Tally {
@@ -350,25 +374,21 @@ fn answer_list(
         steps: 0,
         first: 0,
     };
-    let mut turns = u64::MAX;
-    while turns > 0 {
+    for _ in 0..u64::MAX {
         let continued = calls::continue_search(file0, file1, settings, after, budget, buffer);
         let answer = continued.answer;
         after = continued.after;
         tally = with_answer(tally, answer);
-        if !print_listed(answer, budget, tally, after.accepted, buffer) {
-            return false;
-        }
+        print_listed(out, answer, budget, tally, after.accepted, buffer)?;
         if is_last(answer, budget) {
-            return true;
+            return Ok(true);
         }
-        turns -= 1;
     }
-    false
+    Ok(false)
 }
 
-// Answers a case whose parts stand one after the other.
-fn answer(case: Case, bytes: &[u8; 5872]) -> bool
+// Answers a case whose parts stand one after the other. Is it one?
+fn answer<W: Write>(out: &mut W, case: Case, bytes: &[u8; 5872]) -> io::Result<bool>
     requires given_bound { case.length0 + case.length1 + case.settings + case.given ≤ 5872 }
     requires budget_bound { case.budget ≤ 65535 }
     requires buffer_bound { case.buffer ≤ 512 }
@@ -388,16 +408,19 @@ fn answer(case: Case, bytes: &[u8; 5872]) -> bool
     let buffer = &mut space[0..size];
     let call = case.call;
     match call {
-        Call::Start => answer_start(file0, file1, settings),
-        Call::Continue => answer_continue(file0, file1, settings, given, budget, buffer),
-        Call::Check => answer_check(file0, file1, settings, given),
-        Call::List => answer_list(file0, file1, settings, budget, buffer),
-        Call::Unknown => text::bad_case(),
+        Call::Start => answer_start(out, file0, file1, settings)?,
+        Call::Continue => {
+            return answer_continue(out, file0, file1, settings, given, budget, buffer);
+        }
+        Call::Check => answer_check(out, file0, file1, settings, given)?,
+        Call::List => return answer_list(out, file0, file1, settings, budget, buffer),
+        Call::Unknown => return text::bad_case(out),
     }
+    Ok(true)
 }
 
-// Reads the bytes of a case and answers the case.
-fn read_bytes(case: Case) -> bool
+// Reads the bytes of a case and answers the case. Is it one?
+fn read_bytes<R: Read, W: Write>(input: &mut R, out: &mut W, case: Case) -> io::Result<bool>
     requires given_bound { case.length0 + case.length1 + case.settings + case.given ≤ 5872 }
     requires budget_bound { case.budget ≤ 65535 }
     requires buffer_bound { case.buffer ≤ 512 }
@@ -405,32 +428,32 @@ fn read_bytes(case: Case) -> bool
     let count = case.length0 + case.length1 + case.settings + case.given;
     let mut line = [0u8; 11745];
     let mut bytes = [0u8; 5872];
-    if !text::read_decoded(&mut line, &mut bytes, count) {
-        return text::bad_case();
+    if !text::read_decoded(input, &mut line, &mut bytes, count)? {
+        return text::bad_case(out);
     }
-    answer(case, &bytes)
+    answer(out, case, &bytes)
 }
 
-fn run(case: Case) -> bool {
+fn run<R: Read, W: Write>(input: &mut R, out: &mut W, case: Case) -> io::Result<bool> {
     if MAX_FILE < case.length0 {
-        return text::bad_case();
+        return text::bad_case(out);
     }
     if MAX_FILE < case.length1 {
-        return text::bad_case();
+        return text::bad_case(out);
     }
     if MAX_SETTINGS < case.settings {
-        return text::bad_case();
+        return text::bad_case(out);
     }
     if MAX_GIVEN < case.given {
-        return text::bad_case();
+        return text::bad_case(out);
     }
     if MAX_BUDGET < case.budget {
-        return text::bad_case();
+        return text::bad_case(out);
     }
     if MAX_BUFFER < case.buffer {
-        return text::bad_case();
+        return text::bad_case(out);
     }
-    read_bytes(case)
+    read_bytes(input, out, case)
 }
 
 // A number of the header, with the space after it.
@@ -444,15 +467,15 @@ fn number_at(header: &[u8; 42], at: usize) -> usize
 }
 
 // Answers the next case. Is there one after it?
-fn next_case() -> bool {
+fn next_case<R: Read, W: Write>(input: &mut R, out: &mut W) -> io::Result<bool> {
     let mut header = [0u8; 42];
-    if !text::read_header(&mut header) {
-        return false;
+    if !text::read_header(input, out, &mut header)? {
+        return Ok(false);
     }
     if header[5] != b' ' {
-        return text::bad_case();
+        return text::bad_case(out);
     }
-    run(Case {
+    let case = Case {
         call: call_of(header[0]),
         length0: number_at(&header, 6),
         length1: number_at(&header, 12),
@@ -460,13 +483,18 @@ fn next_case() -> bool {
         given: number_at(&header, 24),
         budget: number_at(&header, 30),
         buffer: number_at(&header, 36),
-    })
+    };
+    run(input, out, case)
 }
 
-// Nothing says that the input ends, so the loop counts its turns down.
-fn main() {
-    let mut turns = u64::MAX;
-    while turns > 0 && next_case() {
-        turns -= 1;
+// Nothing says that the input ends, so the loop counts its turns.
+fn main(rt: HostRuntime) -> io::Result<()> {
+    let mut input = rt.stdin();
+    let mut out = io::writer(&rt);
+    for _ in 0..u64::MAX {
+        if !next_case(&mut input, &mut out)? {
+            break;
+        }
     }
+    Ok(())
 }

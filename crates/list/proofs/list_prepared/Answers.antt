@@ -1,0 +1,24 @@
+use Prim.Native.Nat.{◌≤◌}
+use mathlib.Core.Path.{refl}
+use native.Mathlib.Omega.{arith}
+use lib.ListN.{get_or}
+use Rattle.lookup.specs.Lent.{lent, task_in, Ready}
+use Rattle.lookup.specs.declared.Rules.{Rules}
+use Rattle.step.specs.Steps.{record_in}
+use Rattle.step.proofs.Followed.{few-nodes, begun-follows}
+use Rattle.batches.proofs.Listed.{batch-most}
+use Rattle.list.proofs.list_prepared.Goals as goal
+
+pub loop-init : goal.loop-init
+loop-init g c = (omega arith, refl, record { ready = c.requires; follows = begun-follows c.new.ensures; offered = refl })
+
+pub gather-batch-requires-clause-buffer_holds : goal.gather-batch-requires-clause-buffer_holds
+gather-batch-requires-clause-buffer_holds g c =
+    let a = c.args in
+    omega (arith, (few-nodes (lent a.matrix.now a.rows.now a.words.now a.nodes.now a.rules) c.requires).1)
+
+pub put_batch-requires-clause-batch_bound : goal.put_batch-requires-clause-batch_bound
+put_batch-requires-clause-batch_bound g c =
+    let a = c.args in
+    let l = lent a.matrix.now a.rows.now a.words.now a.nodes.now a.rules in
+    (omega (arith, c.gather-batch.ensures.maps_are, batch-most (task_in l) 65535 128 (record_in c.loop.search)), (few-nodes l c.requires).1)
