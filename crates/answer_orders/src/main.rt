@@ -1,5 +1,6 @@
 // Answers cases of the outer calls Read and Order, one line for each; tests/README.md has their form.
 #![tactic(auto)]
+
 ghost use Rattle.std.specs.Prelude.{◌≤◌, length};
 
 use order::OrderAnswer;

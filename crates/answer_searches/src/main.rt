@@ -1,5 +1,6 @@
 // Answers cases of the outer calls Start, Continue and Check, and of listings by Start and Continue; tests/README.md has their form.
 #![tactic(auto)]
+
 ghost use Rattle.std.specs.Prelude.{◌+◌, ◌≤◌, length};
 
 use calls::{CheckAnswer, ContinueAnswer, StartAnswer};
@@ -44,7 +45,7 @@ struct Case {
 }
 
 // How a listing goes: the maps so far, all steps, and those up to the first map.
-#[derive(Drop)]
+#[derive(Clone, Copy)]
 struct Tally {
     maps: usize,
     steps: usize,
@@ -175,12 +176,7 @@ fn print_map<W: Write>(out: &mut W, map: &[u8]) -> io::Result<()> {
     text::write_line(out, &mut line, at)
 }
 
-fn print_end<W: Write>(
-    out: &mut W,
-    ending: &[u8],
-    tally: Tally,
-    accepted: u32,
-) -> io::Result<()> {
+fn print_end<W: Write>(out: &mut W, ending: &[u8], tally: Tally, accepted: u32) -> io::Result<()> {
     let mut line = [0u8; 4096];
     let at = put_end(&mut line, ending, tally, accepted);
     text::write_line(out, &mut line, at)
@@ -313,12 +309,12 @@ fn with_map(tally: Tally) -> Tally {
     }
 }
 
-fn with_answer(tally: Tally, answer: ContinueAnswer) -> Tally {
+fn with_answer(tally: Tally, answer: &ContinueAnswer) -> Tally {
     match answer {
-        ContinueAnswer::Found { steps } => with_map(with_steps(tally, steps)),
-        ContinueAnswer::None { steps } => with_steps(tally, steps),
-        ContinueAnswer::Limit { steps } => with_steps(tally, steps),
-        ContinueAnswer::Paused { steps } => with_steps(tally, steps),
+        ContinueAnswer::Found { steps } => with_map(with_steps(tally, *steps)),
+        ContinueAnswer::None { steps } => with_steps(tally, *steps),
+        ContinueAnswer::Limit { steps } => with_steps(tally, *steps),
+        ContinueAnswer::Paused { steps } => with_steps(tally, *steps),
         ContinueAnswer::Refused {
             refusal: _,
             file: _,
@@ -327,7 +323,7 @@ fn with_answer(tally: Tally, answer: ContinueAnswer) -> Tally {
 }
 
 // With budget 0 a pause would follow a pause for ever.
-fn is_last(answer: ContinueAnswer, budget: u16) -> bool {
+fn is_last(answer: &ContinueAnswer, budget: u16) -> bool {
     match answer {
         ContinueAnswer::Found { steps: _ } => false,
         ContinueAnswer::Paused { steps: _ } => budget == 0,
@@ -378,9 +374,10 @@ fn answer_list<W: Write>(
         let continued = calls::continue_search(file0, file1, settings, after, budget, buffer);
         let answer = continued.answer;
         after = continued.after;
-        tally = with_answer(tally, answer);
+        tally = with_answer(tally, &answer);
+        let last = is_last(&answer, budget);
         print_listed(out, answer, budget, tally, after.accepted, buffer)?;
-        if is_last(answer, budget) {
+        if last {
             return Ok(true);
         }
     }

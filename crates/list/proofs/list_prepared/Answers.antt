@@ -1,9 +1,6 @@
-use Prim.Native.Nat.{◌≤◌}
 use mathlib.Core.Path.{refl}
 use native.Mathlib.Omega.{arith}
-use lib.ListN.{get_or}
-use Rattle.lookup.specs.Lent.{lent, task_in, Ready}
-use Rattle.lookup.specs.declared.Rules.{Rules}
+use Rattle.lookup.specs.Lent.{lent, task_in}
 use Rattle.step.specs.Steps.{record_in}
 use Rattle.step.proofs.Followed.{few-nodes, begun-follows}
 use Rattle.batches.proofs.Listed.{batch-most}

@@ -1,6 +1,6 @@
 -- `text::decode` meets its contract. At the loop's head the first 2 * i characters are digits, and the buffer starts with the i bytes
 -- that they spell and goes on as it came.
-use Prim.Native.Nat.{◌+◌, ◌*◌, ◌-◌, ◌≤◌}
+use Prim.Native.Nat.{◌*◌, ◌-◌, ◌≤◌}
 use mathlib.Core.List.{◌++◌}
 use mathlib.Core.Path.{◌≡◌}
 use lib.ListN.{length, drop}

@@ -6,9 +6,9 @@ use Rattle.text.proofs.digit.Goals as goal
 
 pub returns-in-48-to-57 : goal.returns-in-48-to-57
 returns-in-48-to-57 c = record {
-      value = sym (value-of-number c.args.c (omega arith) (omega arith));
-      upper_bound = omega arith;
-    }
+  value = sym (value-of-number c.args.c (omega arith) (omega arith));
+  upper_bound = omega arith;
+}
 
 pub returns-in-97-to-102 : goal.returns-in-97-to-102
 returns-in-97-to-102 c =
@@ -20,15 +20,15 @@ returns-in-97-to-102 c =
 
 pub returns-in_default : goal.returns-in_default
 returns-in_default c = record {
-      value = sym (value-of-none c.args.c (λ l h. omega arith) (λ l h. omega arith));
-      upper_bound = omega arith;
-    }
+  value = sym (value-of-none c.args.c (λ l h. omega arith) (λ l h. omega arith));
+  upper_bound = omega arith;
+}
 
 pub returns-in_default-2 : goal.returns-in_default-2
 returns-in_default-2 c = record {
-      value = sym (value-of-none c.args.c (λ l h. omega arith) (λ l h. omega arith));
-      upper_bound = omega arith;
-    }
+  value = sym (value-of-none c.args.c (λ l h. omega arith) (λ l h. omega arith));
+  upper_bound = omega arith;
+}
 
 pub returns-in_default-3 : goal.returns-in_default-3
 returns-in_default-3 c =
