@@ -4,8 +4,8 @@
     python3 tools/respell.py          at the top of the repository, once
 
 Names are whole words of specs/, proofs/ and the clauses of src/: a name in camel case, a hyphenated definition of specs/, and a
-hyphenated field or definition of proofs/. Lemmas keep their hyphens, which stand between the words of their statements. Rust's
-functions, text and numbers keep their names.
+hyphenated field or definition of proofs/, wherever the same name stands. Other lemmas keep their hyphens, which stand between the
+words of their statements. Rust's functions, text and numbers keep their names.
 """
 import glob
 import re
