@@ -1,4 +1,3 @@
 pub mod Value
-pub mod Put
-pub mod Decimal
+pub mod Fit
 pub mod Lines

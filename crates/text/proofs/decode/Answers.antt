@@ -9,6 +9,7 @@ use Rattle.basics.specs.Lists.{from}
 use Rattle.basics.proofs.Laws.{from-none, from-length, map-from-more, stored-behind}
 use Rattle.basics.proofs.Tests.{case}
 use Rattle.text.specs.Text.{value_of, Digits, byte_at, bytes_of}
+use Rattle.text.proofs.Value.{digit-known}
 use Rattle.text.proofs.decode.Goals as goal
 
 -- two characters more
@@ -31,16 +32,16 @@ one_more text bytes i h =
     rw (map-from-more (byte_at text) i) (stored-behind (bytes_of text i) bytes i (byte_at text i) (length-map (from 0 i) _ ∙ from-length 0 i) h)
 
 pub loop-i-init : goal.loop-i-init
-loop-i-init c = (omega arith, refl, λ j h. absurd (omega arith), rw (from-none 0))
+loop-i-init c = (refl, λ j h. absurd (omega arith), rw (from-none 0) refl)
 
 pub loop-i-preserved : goal.loop-i-preserved
 loop-i-preserved c =
     let l = c.loop-i in
-    let a = c.args in
-    let text = a.text.now in
-    let byte : c.digit-high.result * 16 + c.digit-low.result ≡ byte_at text l.i = omega arith in (
-      omega arith,
-      simp length-set l.invariant.1,
-      digits_more text l.i l.invariant.2 (omega arith) (omega arith),
-      rw (byte, l.invariant.3) (one_more text a.bytes.now l.i (omega arith)),
+    let text = c.args.text.now in
+    let high = digit-known (get_or text (2 * l.i) 0) c.in_ok-digit.field-0 c.in_ok-digit.ensures.value in
+    let low = digit-known (get_or text (2 * l.i + 1) 0) c.in_ok-byte.field-0 c.in_ok-byte.ensures.value in
+    let byte : c.in_ok-digit.field-0 * 16 + c.in_ok-byte.field-0 ≡ byte_at text l.i = omega (arith, high.0, low.0) in (
+      length-set l.bytes l.i _ ∙ l.invariant.0,
+      digits_more text l.i l.invariant.1 (omega (arith, high.0, high.1)) (omega (arith, low.0, low.1)),
+      rw (byte, l.invariant.2) (one_more text c.args.bytes.now l.i (omega arith)),
     )

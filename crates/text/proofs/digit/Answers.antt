@@ -1,38 +1,21 @@
 -- `text::digit` meets its contract: each arm of the match is a case of the definition.
-use mathlib.Core.Path.{sym}
 use native.Mathlib.Omega.{arith}
-use Rattle.text.proofs.Value.{value-of-number, value-of-letter, value-of-none}
+use Rattle.text.proofs.Value.{value-of-number, value-of-letter, value-of-none, digit_some, digit_none}
 use Rattle.text.proofs.digit.Goals as goal
 
-pub returns-in-48-to-57 : goal.returns-in-48-to-57
-returns-in-48-to-57 c = record {
-  value = sym (value-of-number c.args.c (omega arith) (omega arith));
-  upper_bound = omega arith;
-}
+pub returns-in-48-to-57-clause-value : goal.returns-in-48-to-57-clause-value
+returns-in-48-to-57-clause-value c = digit_some c.args.c _ (value-of-number c.args.c (omega arith) (omega arith)) (omega arith)
 
-pub returns-in-97-to-102 : goal.returns-in-97-to-102
-returns-in-97-to-102 c =
+pub returns-in-97-to-102-clause-value : goal.returns-in-97-to-102-clause-value
+returns-in-97-to-102-clause-value c =
     let value = value-of-letter c.args.c (omega arith) (omega arith) in
-    record {
-      value = omega arith;
-      upper_bound = omega arith;
-    }
+    digit_some c.args.c _ (omega (arith, value)) (omega arith)
 
-pub returns-in_default : goal.returns-in_default
-returns-in_default c = record {
-  value = sym (value-of-none c.args.c (λ l h. omega arith) (λ l h. omega arith));
-  upper_bound = omega arith;
-}
+pub returns-in_default-clause-value : goal.returns-in_default-clause-value
+returns-in_default-clause-value c = digit_none c.args.c (value-of-none c.args.c (λ l h. omega arith) (λ l h. omega arith))
 
-pub returns-in_default-2 : goal.returns-in_default-2
-returns-in_default-2 c = record {
-  value = sym (value-of-none c.args.c (λ l h. omega arith) (λ l h. omega arith));
-  upper_bound = omega arith;
-}
+pub returns-in_default-2-clause-value : goal.returns-in_default-2-clause-value
+returns-in_default-2-clause-value c = digit_none c.args.c (value-of-none c.args.c (λ l h. omega arith) (λ l h. omega arith))
 
-pub returns-in_default-3 : goal.returns-in_default-3
-returns-in_default-3 c =
-    record {
-      value = sym (value-of-none c.args.c (λ l h. omega arith) (λ l h. omega arith));
-      upper_bound = omega arith;
-    }
+pub returns-in_default-3-clause-value : goal.returns-in_default-3-clause-value
+returns-in_default-3-clause-value c = digit_none c.args.c (value-of-none c.args.c (λ l h. omega arith) (λ l h. omega arith))

@@ -1,17 +1,15 @@
--- `text::number` meets its contract. At the loop's head the first i characters are decimal digits, and n is what they spell: less
--- than 10 ^ i.
-use Prim.Native.Nat.{ℕ, ◌+◌, ◌-◌, ◌^◌, ◌≤◌, ◌<◌}
+-- `text::number` meets its contract. At the loop's head the first characters are decimal digits, and n is what they spell: less
+-- than 10 to their number.
+use Prim.Native.Nat.{◌^◌, ◌<◌}
+use mathlib.Core.Bool.{false}
 use mathlib.Core.Path.{◌≡◌}
-use lib.ListN.{get_or}
+use lib.Dec.{ltb}
+use lib.ListN.{take}
+use Rattle.std.specs.List.{list_any}
 use Rattle.text.specs.Text.{value_of, spelled}
 use Rattle.text.proofs.number.Given as goal
 
-abbrev pub invariant-loop-i : goal.invariant-loop-i
-invariant-loop-i l =
-    (l.i ≤ l.count)
-    × (l.n < 10 ^ l.i)
-    × (l.n ≡ spelled l.text l.at l.i)
-    × ((j : ℕ) → j < l.i → value_of (get_or l.text (l.at + j) 0) < 10)
-
-abbrev pub decreases-loop-i : goal.decreases-loop-i
-decreases-loop-i l = l.count - l.i
+abbrev pub invariant-loop-c : goal.invariant-loop-c
+invariant-loop-c l =
+    let front = take l.c-index l.text in
+    (l.n < 10 ^ l.c-index) × (l.n ≡ spelled front) × (list_any (λ c. ltb 9 (value_of c)) front ≡ false)
