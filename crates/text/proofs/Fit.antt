@@ -1,6 +1,6 @@
 -- What fits of bytes put after bytes is what fits of both.
 use Prim.Native.Nat.{ℕ, ◌+◌, ◌-◌, ◌≤◌, ◌<◌, min}
-use mathlib.Core.List.{List, [], ◌∷◌, ◌++◌}
+use mathlib.Core.List.{List, [], ◌∷◌, ◌++◌, append_assoc}
 use mathlib.Core.Path.{◌≡◌, refl, sym, ◌∙◌, ap}
 use native.Mathlib.Omega.{arith}
 use lib.Dec.{ltb}
@@ -42,3 +42,12 @@ pub fit_more : (N : ℕ) (part : ℕ → List ℕ) (text numbers : List ℕ) (n 
     → after ≡ take N (text ++ flat_map part (numbers ++ (n ∷ [])))
 fit_more N part text numbers n p q =
     q ∙ rw p (fit_then N (text ++ flat_map part numbers) (part n)) ∙ ap (take N) (flat_map_more part text numbers n)
+
+-- what fits is put whole
+pub fit-whole : (N : ℕ) (text first second : List ℕ) {between after : List ℕ} → length text + length first + length second ≤ N
+    → between ≡ take N (text ++ first) → after ≡ take N (between ++ second) → after ≡ text ++ (first ++ second)
+fit-whole N text first second h p q =
+    q
+    ∙ rw p (fit_then N (text ++ first) second)
+    ∙ ap (take N) (append_assoc text first second)
+    ∙ take_all N (text ++ (first ++ second)) (omega (arith, length-append text (first ++ second), length-append first second))
