@@ -1,3 +1,2 @@
-pub mod Value
 pub mod Fit
 pub mod Lines
