@@ -3,8 +3,7 @@
 
 ghost use Rattle.std.specs.Prelude.{◌≤◌};
 
-use order::OrderAnswer;
-use packed::ReadAnswer;
+use packed::{Refused, Summary};
 use std::io;
 use std::io::{Read, Write};
 use text::Page;
@@ -56,33 +55,30 @@ impl Case {
     }
 }
 
-fn put_read(line: &mut Line, answer: ReadAnswer) {
+fn put_refused(line: &mut Line, refused: Refused) {
+    let number = usize::from(refused.refusal);
+    line.put_outcome(b"refused", number as u64, refused.file as u64);
+}
+
+fn put_read(line: &mut Line, answer: Result<Summary, Refused>) {
     match answer {
-        ReadAnswer::Graph {
-            directed,
-            nodes,
-            edges,
-        } => {
+        Ok(summary) => {
             line.put_bytes(b"graph");
-            line.put_field(u64::from(directed));
-            line.put_field(nodes as u64);
-            line.put_field(edges as u64);
+            line.put_field(u64::from(summary.directed));
+            line.put_field(summary.nodes as u64);
+            line.put_field(summary.edges as u64);
         }
-        ReadAnswer::Refused { refusal, file } => {
-            line.put_outcome(b"refused", packed::number_of(refusal) as u64, file as u64);
-        }
+        Err(refused) => put_refused(line, refused),
     }
 }
 
-fn put_order(line: &mut Line, answer: OrderAnswer) {
+fn put_order(line: &mut Line, answer: Result<usize, Refused>) {
     match answer {
-        OrderAnswer::Ordered { nodes } => {
+        Ok(nodes) => {
             line.put_bytes(b"ordered");
             line.put_field(nodes as u64);
         }
-        OrderAnswer::Refused { refusal, file } => {
-            line.put_outcome(b"refused", packed::number_of(refusal) as u64, file as u64);
-        }
+        Err(refused) => put_refused(line, refused),
     }
 }
 

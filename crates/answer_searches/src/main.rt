@@ -3,9 +3,10 @@
 
 ghost use Rattle.std.specs.Prelude.{IfSome, ◌≡◌, ◌+◌, ◌≤◌, length};
 
-use calls::{CheckAnswer, ContinueAnswer, StartAnswer};
-use packed::Refusal;
+use calls::Advanced;
+use packed::Refused;
 use records::Record;
+use run::Ending;
 use std::io;
 use std::io::{Read, Write};
 use std::ops::ControlFlow;
@@ -119,14 +120,13 @@ struct Case<'a> {
 
 impl<'a> Case<'a> {
     fn start<W: Write>(&self, out: &mut W) -> io::Result<()> {
-        let started = calls::start(self.file0, self.file1, self.settings);
         let mut line = Line::new();
-        match started.answer {
-            StartAnswer::Begun => {
+        match calls::start(self.file0, self.file1, self.settings) {
+            Ok(started) => {
                 line.put_bytes(b"started");
-                put_record(&mut line, &started.fresh);
+                put_record(&mut line, &started);
             }
-            StartAnswer::Refused { refusal, file } => put_refused(&mut line, refusal, file),
+            Err(refused) => put_refused(&mut line, refused),
         }
         line.write_line(out)
     }
@@ -157,16 +157,19 @@ impl<'a> Case<'a> {
     fn check<W: Write>(&self, out: &mut W) -> io::Result<()> {
         let mut line = Line::new();
         match calls::check(self.file0, self.file1, self.settings, self.given) {
-            CheckAnswer::Yes => line.put_bytes(b"yes"),
-            CheckAnswer::No => line.put_bytes(b"no"),
-            CheckAnswer::Refused { refusal, file } => put_refused(&mut line, refusal, file),
+            Ok(true) => line.put_bytes(b"yes"),
+            Ok(false) => line.put_bytes(b"no"),
+            Err(refused) => put_refused(&mut line, refused),
         }
         line.write_line(out)
     }
 
     // A whole listing, the same budget for each Continue. Nothing here says that it ends, so the loop counts its turns.
     fn list<W: Write>(&self, out: &mut W, buffer: &mut [u8]) -> io::Result<()> {
-        let mut after = calls::start(self.file0, self.file1, self.settings).fresh;
+        let mut after = match calls::start(self.file0, self.file1, self.settings) {
+            Ok(started) => started,
+            Err(refused) => return print_refused(out, refused),
+        };
         let mut tally = Tally::default();
         for _ in 0..u64::MAX {
             let continued = calls::continue_search(
@@ -193,37 +196,27 @@ impl<'a> Case<'a> {
     fn print_listed<W: Write>(
         &self,
         out: &mut W,
-        answer: ContinueAnswer,
+        answer: Result<Advanced, Refused>,
         tally: &mut Tally,
         accepted: u32,
         map: &[u8],
     ) -> io::Result<ControlFlow<()>> {
-        match answer {
-            ContinueAnswer::Found { steps } => {
-                tally.add_map(steps);
+        let Advanced { ending, steps } = match answer {
+            Ok(advanced) => advanced,
+            Err(refused) => {
+                print_refused(out, refused)?;
+                return Ok(ControlFlow::Break(()));
+            }
+        };
+        tally.add_steps(steps);
+        match ending {
+            Ending::Found => {
+                tally.add_map();
                 print_map(out, map)?;
                 return Ok(ControlFlow::Continue(()));
             }
-            ContinueAnswer::Paused { steps } => {
-                tally.add_steps(steps);
-                if self.budget != 0 {
-                    return Ok(ControlFlow::Continue(()));
-                }
-                tally.print_end(out, b"paused", accepted)?;
-            }
-            ContinueAnswer::None { steps } => {
-                tally.add_steps(steps);
-                tally.print_end(out, b"none", accepted)?;
-            }
-            ContinueAnswer::Limit { steps } => {
-                tally.add_steps(steps);
-                tally.print_end(out, b"limit", accepted)?;
-            }
-            ContinueAnswer::Refused { refusal, file } => {
-                let mut line = Line::new();
-                put_refused(&mut line, refusal, file);
-                line.write_line(out)?;
-            }
+            Ending::Paused if self.budget != 0 => return Ok(ControlFlow::Continue(())),
+            _ => tally.print_end(out, name_of(ending), accepted)?,
         }
         Ok(ControlFlow::Break(()))
     }
@@ -243,8 +236,7 @@ impl Tally {
         self.steps = self.steps.wrapping_add(steps);
     }
 
-    fn add_map(&mut self, steps: usize) {
-        self.add_steps(steps);
+    fn add_map(&mut self) {
         self.maps = self.maps.wrapping_add(1);
         self.first = self.first.or(Some(self.steps));
     }
@@ -270,29 +262,43 @@ fn print_map<W: Write>(out: &mut W, map: &[u8]) -> io::Result<()> {
     line.write_line(out)
 }
 
-fn put_refused(line: &mut Line, refusal: Refusal, file: usize) {
-    line.put_outcome(b"refused", packed::number_of(refusal) as u64, file as u64);
+fn put_refused(line: &mut Line, refused: Refused) {
+    let number = usize::from(refused.refusal);
+    line.put_outcome(b"refused", number as u64, refused.file as u64);
 }
 
-fn put_steps(line: &mut Line, name: &[u8], steps: usize) {
-    line.put_bytes(name);
-    line.put_field(steps as u64);
+fn print_refused<W: Write>(out: &mut W, refused: Refused) -> io::Result<()> {
+    let mut line = Line::new();
+    put_refused(&mut line, refused);
+    line.write_line(out)
 }
 
-fn put_continued(line: &mut Line, answer: ContinueAnswer) {
+fn name_of(ending: Ending) -> &'static [u8] {
+    match ending {
+        Ending::Found => b"found",
+        Ending::None => b"none",
+        Ending::Limit => b"limit",
+        Ending::Paused => b"paused",
+    }
+}
+
+fn put_continued(line: &mut Line, answer: Result<Advanced, Refused>) {
     match answer {
-        ContinueAnswer::Found { steps } => put_steps(line, b"found", steps),
-        ContinueAnswer::None { steps } => put_steps(line, b"none", steps),
-        ContinueAnswer::Limit { steps } => put_steps(line, b"limit", steps),
-        ContinueAnswer::Paused { steps } => put_steps(line, b"paused", steps),
-        ContinueAnswer::Refused { refusal, file } => put_refused(line, refusal, file),
+        Ok(Advanced { ending, steps }) => {
+            line.put_bytes(name_of(ending));
+            line.put_field(steps as u64);
+        }
+        Err(refused) => put_refused(line, refused),
     }
 }
 
 fn put_top(line: &mut Line, top: Top) {
     match top {
         Top::Outer => line.put_bytes(b" outer"),
-        Top::Inner(position) => put_steps(line, b" inner", position),
+        Top::Inner(position) => {
+            line.put_bytes(b" inner");
+            line.put_field(position as u64);
+        }
         Top::Unwind => line.put_bytes(b" unwind"),
     }
 }

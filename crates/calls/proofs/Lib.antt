@@ -1,6 +1,5 @@
 pub mod Handed
 pub mod Answered
 pub mod Searched
-pub mod Begun
 pub mod Judged
 pub mod Outcomes

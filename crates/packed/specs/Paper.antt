@@ -1,11 +1,11 @@
 -- The paper's number and values for each case of the enums that the code answers with (document 01, last section).
-use Rattle.std.specs.Prelude.{ℕ, Bool, length}
+use Rattle.std.specs.Prelude.{ℕ, Bool, Result, Ok, Err, length}
 use Rattle.packed.specs.Graph.{nodes}
 use Rattle.packed.specs.Refusals.{Refused, Reading, graph, refusal}
 use Rattle.packed.specs.declared.Refusal.{Refusal}
 use Rattle.packed.specs.declared.Refusal.TheVariants.{TooShort, TooManyNodes, TooManyEdges, WrongLength, PaddingBit, UnknownNode, KindsDiffer, BadSettings, NoAcceptedPath, BufferTooShort, WrongMapLength}
-use Rattle.packed.specs.declared.ReadAnswer.{ReadAnswer}
-use Rattle.packed.specs.declared.ReadAnswer.TheVariants as code
+use Rattle.packed.specs.declared.Refused as code
+use Rattle.packed.specs.declared.Summary.{Summary}
 
 abbrev pub number_of : Refusal → ℕ
 number_of TooShort = 1
@@ -32,6 +32,12 @@ abbrev pub summary : Reading → ReadSays
 summary (graph g) = counts g.directed (nodes g) (length g.edges)
 summary (refusal r) = refused r
 
-abbrev pub read_paper : ReadAnswer → ReadSays
-read_paper (code.Graph directed nodes edges) = counts directed nodes edges
-read_paper (code.Refused r file) = refused (refused_by r file)
+abbrev pub counts_in : Summary → ReadSays
+counts_in s = counts s.directed s.nodes s.edges
+
+abbrev pub refused_in : code.Refused → Refused
+refused_in r = refused_by r.refusal r.file
+
+abbrev pub read_paper : Result Summary code.Refused → ReadSays
+read_paper (Ok s) = counts_in s
+read_paper (Err r) = refused (refused_in r)

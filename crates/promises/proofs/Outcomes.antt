@@ -4,14 +4,13 @@ use mathlib.Core.List.{List}
 use mathlib.Core.Path.{◌≡◌, sym, ◌∙◌, ap}
 use native.Mathlib.Omega.{arith}
 use Rattle.packed.specs.Refusals.{first}
-use Rattle.packed.specs.Paper.{number_of, refused_by, read_paper}
+use Rattle.std.specs.Prelude.{Result, Ok, Err}
+use Rattle.packed.specs.Paper.{number_of, refused_in, read_paper}
 use Rattle.packed.specs.declared.Refusal.{Refusal}
-use Rattle.packed.specs.declared.ReadAnswer.{ReadAnswer}
-use Rattle.packed.specs.declared.ReadAnswer.TheVariants as read
+use Rattle.packed.specs.declared.Refused as code
+use Rattle.packed.specs.declared.Summary.{Summary}
 use Rattle.packed.proofs.Numbered.{bearing, bears}
 use Rattle.order.specs.Paper.{order_paper}
-use Rattle.order.specs.declared.OrderAnswer.{OrderAnswer}
-use Rattle.order.specs.declared.OrderAnswer.TheVariants as order
 use Rattle.rules.specs.Calls.{check_lines, Proposes}
 use Rattle.rules.proofs.Judged.{judged-once}
 use Rattle.promises.specs.Promises.{OneOutcome}
@@ -19,27 +18,28 @@ use Rattle.promises.specs.Promises.{OneOutcome}
 refusals_apart : (r q : Refusal) → number_of r ≡ number_of q → r ≡ q
 refusals_apart r q e = sym (bears r) ∙ ap bearing e ∙ bears q
 
-refused-apart : (r q : Refusal) (file other : ℕ) → refused_by r file ≡ refused_by q other → (r ≡ q) × (file ≡ other)
-refused-apart r q file other e = (refusals_apart r q (ap (λ z. z.number) e), ap (λ z. z.file) e)
+refused-apart : (r q : code.Refused) → refused_in r ≡ refused_in q → r ≡ q
+refused-apart r q e =
+    let p = refusals_apart r.refusal q.refusal (ap (λ z. z.number) e) in
+    let f : r.file ≡ q.file = ap (λ z. z.file) e in
+    λ i. record { refusal = p i; file = f i }
 
-reads_apart : (a b : ReadAnswer) → read_paper a ≡ read_paper b → a ≡ b
-reads_apart (read.Graph d n e) (read.Graph d' n' e') k =
-    let p : d ≡ d' = cc k in let q : n ≡ n' = cc k in let r : e ≡ e' = cc k in λ i. read.Graph (p i) (q i) (r i)
-reads_apart (read.Graph d n e) (read.Refused r f) k = let z : ◌≡◌ {A = ℕ} 0 1 = cc in absurd (omega arith)
-reads_apart (read.Refused r f) (read.Graph d n e) k = let z : ◌≡◌ {A = ℕ} 0 1 = cc in absurd (omega arith)
-reads_apart (read.Refused r f) (read.Refused q g) k =
-    let same : refused_by r f ≡ refused_by q g = cc k in
-    let p = refused-apart r q f g same in
-    λ i. read.Refused (p.0 i) (p.1 i)
+reads_apart : (a b : Result Summary code.Refused) → read_paper a ≡ read_paper b → a ≡ b
+reads_apart (Ok s) (Ok t) k =
+    let p : s.directed ≡ t.directed = cc k in
+    let q : s.nodes ≡ t.nodes = cc k in
+    let r : s.edges ≡ t.edges = cc k in
+    ap Ok (λ i. record { directed = p i; nodes = q i; edges = r i })
+reads_apart (Ok s) (Err q) k = let z : ◌≡◌ {A = ℕ} 0 1 = cc in absurd (omega arith)
+reads_apart (Err r) (Ok t) k = let z : ◌≡◌ {A = ℕ} 0 1 = cc in absurd (omega arith)
+reads_apart (Err r) (Err q) k = let same : refused_in r ≡ refused_in q = cc k in ap Err (refused-apart r q same)
 
-orders_apart : (a b : OrderAnswer) (x y : List ℕ) → order_paper a x ≡ order_paper b y → (a ≡ b) × (x ≡ y)
-orders_apart (order.Ordered n) (order.Ordered m) x y k = let p : n ≡ m = cc k in (ap (λ z. order.Ordered z) p, cc k)
-orders_apart (order.Ordered n) (order.Refused r f) x y k = let z : ◌≡◌ {A = ℕ} 0 1 = cc in absurd (omega arith)
-orders_apart (order.Refused r f) (order.Ordered n) x y k = let z : ◌≡◌ {A = ℕ} 0 1 = cc in absurd (omega arith)
-orders_apart (order.Refused r f) (order.Refused q g) x y k =
-    let same : refused_by r f ≡ refused_by q g = cc k in
-    let p = refused-apart r q f g same in
-    (λ i. order.Refused (p.0 i) (p.1 i), cc k)
+orders_apart : (a b : Result ℕ code.Refused) (x y : List ℕ) → order_paper a x ≡ order_paper b y → (a ≡ b) × (x ≡ y)
+orders_apart (Ok n) (Ok m) x y k = let p : n ≡ m = cc k in (ap Ok p, cc k)
+orders_apart (Ok n) (Err r) x y k = let z : ◌≡◌ {A = ℕ} 0 1 = cc in absurd (omega arith)
+orders_apart (Err r) (Ok n) x y k = let z : ◌≡◌ {A = ℕ} 0 1 = cc in absurd (omega arith)
+orders_apart (Err r) (Err q) x y k =
+    let same : refused_in r ≡ refused_in q = cc k in (ap Err (refused-apart r q same), cc k)
 
 pub one-outcome : OneOutcome
 one-outcome =

@@ -1,6 +1,6 @@
 -- What the outer calls promise of files and node ids (document 01, all of it), each promise a statement by itself. Files, settings,
 -- maps and buffers are lists of bytes; what the calls answer stands in the rules' `Calls`, sessions of them in `Sessions`.
-use Rattle.std.specs.Prelude.{ℕ, suc, ◌+◌, ◌*◌, ◌≤◌, ◌<◌, min, Bool, true, false, cond, List, ◌++◌, map, ◌↔◌, ◌⊎◌, ◌≡◌, eqb, ltb, length, get_or, drop}
+use Rattle.std.specs.Prelude.{ℕ, suc, ◌+◌, ◌*◌, ◌≤◌, ◌<◌, min, Bool, true, false, cond, List, Result, ◌++◌, map, ◌↔◌, ◌⊎◌, ◌≡◌, eqb, ltb, length, get_or, drop}
 use Rattle.std.proofs.Math.Option.{Option, none, some}
 use Rattle.basics.specs.Lists.{count}
 use Rattle.packed.specs.Packed.{kind, node_count, graph_of}
@@ -10,10 +10,10 @@ use Rattle.settings.specs.Table.{NotSettings}
 use Rattle.packed.specs.Table.{Says}
 use Rattle.packed.specs.Paper.{number_of, summary, read_paper}
 use Rattle.packed.specs.declared.Refusal.{Refusal}
-use Rattle.packed.specs.declared.ReadAnswer.{ReadAnswer}
+use Rattle.packed.specs.declared.Refused as code
+use Rattle.packed.specs.declared.Summary.{Summary}
 use Rattle.order.specs.Order.{node_order}
 use Rattle.order.specs.Paper.{order_says, order_paper}
-use Rattle.order.specs.declared.OrderAnswer.{OrderAnswer}
 use Rattle.rules.specs.Task.{Task, task_of, graphs_agree, exchange}
 use Rattle.rules.specs.Search.{started, map_of_ids, Answer, Found, None, Limit, Paused}
 use Rattle.rules.specs.Handed.{Handed, handed, accepted_handed}
@@ -208,14 +208,14 @@ pub record CheckAgrees : Type 0 where
 -- 7. No second outcome satisfies what a call's contract says of it (Start and Continue: `calls`, over the code's answers)
 
 pub record OneOutcome : Type 0 where
-  pub read : (file : ℕ) (f : List ℕ) (a b : ReadAnswer) → read_paper a ≡ summary (reading file f) → read_paper b ≡ summary (reading file f) → a ≡ b
-  pub order : (f : List ℕ) (plus_plus : Bool) (buffer : List ℕ) (a b : OrderAnswer) (x y : List ℕ)
+  pub read : (file : ℕ) (f : List ℕ) (a b : Result Summary code.Refused) → read_paper a ≡ summary (reading file f) → read_paper b ≡ summary (reading file f) → a ≡ b
+  pub order : (f : List ℕ) (plus_plus : Bool) (buffer : List ℕ) (a b : Result ℕ code.Refused) (x y : List ℕ)
       → order_paper a x ≡ order_says f plus_plus buffer → order_paper b y ≡ order_says f plus_plus buffer → (a ≡ b) × (x ≡ y)
   pub check : (f₀ f₁ s map' : List ℕ) (a b : CheckSays) → CheckTells f₀ f₁ s map' a → CheckTells f₀ f₁ s map' b → a ≡ b
   -- the paper's values tell the code's cases apart
   pub refusals_apart : (r q : Refusal) → number_of r ≡ number_of q → r ≡ q
-  pub reads_apart : (a b : ReadAnswer) → read_paper a ≡ read_paper b → a ≡ b
-  pub orders_apart : (a b : OrderAnswer) (x y : List ℕ) → order_paper a x ≡ order_paper b y → (a ≡ b) × (x ≡ y)
+  pub reads_apart : (a b : Result Summary code.Refused) → read_paper a ≡ read_paper b → a ≡ b
+  pub orders_apart : (a b : Result ℕ code.Refused) (x y : List ℕ) → order_paper a x ≡ order_paper b y → (a ≡ b) × (x ≡ y)
 
 -- 8. A record that is handed out is accepted by the next call; the records that are accepted are those that the search passes
 

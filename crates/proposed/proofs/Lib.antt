@@ -1,5 +1,6 @@
 pub mod Answers
+pub mod Words
 pub mod Joins
-pub mod Images
 pub mod FindingSources
+pub mod Counts
 pub mod Placement

@@ -12,7 +12,7 @@ room : (s : List ℕ) (o i : ℕ) → i < 32 → field s o i < 2 ^ 31
 room s o i h = omega (arith, field_below s o i, pow_mono {i = i} {j = 31} (omega arith))
 
 pub loop-i-init : goal.loop-i-init
-loop-i-init c = (omega arith, sym (field-none _ _))
+loop-i-init c = sym (field-none _ _)
 
 pub overflow_mul-value : goal.overflow_mul-value
 overflow_mul-value c =
@@ -25,4 +25,4 @@ overflow_add-value c =
     omega (arith, room a.s.now a.offset c.loop-i.i (omega arith), c.bit.ensures)
 
 pub loop-i-preserved : goal.loop-i-preserved
-loop-i-preserved c = (omega arith, rw field-more (cc))
+loop-i-preserved c = rw field-more (cc)
