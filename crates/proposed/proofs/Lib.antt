@@ -1,5 +1,4 @@
 pub mod Answers
-pub mod Words
 pub mod Joins
 pub mod FindingSources
 pub mod Counts
