@@ -1,7 +1,7 @@
 // Answers cases of the outer calls Read and Order, one line for each; tests/README.md has their form.
 #![tactic(auto)]
 
-ghost use Rattle.std.specs.Prelude.{◌≤◌};
+ghost use Rattle.std.specs.Prelude.{IfSome, ◌≤◌};
 
 use packed::{Refused, Summary};
 use std::io;
@@ -32,13 +32,12 @@ impl Call {
     }
 }
 
-// A case: the call, the length of the answer buffer and that of the file.
+// A case: the call, and the length of the answer buffer.
 #[derive(Drop)]
 struct Case {
     call: Call,
     buffer: usize,
-    length: usize,
-    ghost within: { (buffer ≤ 256) × (length ≤ 2800) },
+    ghost within: { buffer ≤ 256 },
 }
 
 impl Case {
@@ -50,9 +49,16 @@ impl Case {
         Some(Case {
             call: Call::named(&header[..6])?,
             buffer: text::number(&header[6..10]).filter(|n| *n <= MAX_BUFFER)?,
-            length: text::number(&header[11..15]).filter(|n| *n <= MAX_FILE)?,
         })
     }
+}
+
+// How long the file of a case is.
+fn file_length(header: &[u8]) -> Option<usize>
+    ensures { IfSome result (λ length. length ≤ 2800) }
+{
+    let header = header.as_array::<16>()?;
+    text::number(&header[11..15]).filter(|n| *n <= MAX_FILE)
 }
 
 fn put_refused(line: &mut Line, refused: Refused) {
@@ -100,17 +106,21 @@ fn answer_order<W: Write>(
     line.write_line(out)
 }
 
-// Reads the file of a case and answers the case. Is it one?
+// Reads the file of a case and answers the case. Is it one? The rest of the header is looked at when the line is read: no part of a case
+// is left in the input.
 fn answer<R: Read, W: Write>(input: &mut R, out: &mut W, header: &[u8]) -> io::Result<bool> {
-    let Some(case) = Case::of(header) else {
+    let Some(length) = file_length(header) else {
         return Ok(false);
     };
     let mut line = [0u8; 5601];
     let mut bytes = [0u8; MAX_FILE];
-    let file = &mut bytes[..case.length];
+    let file = &mut bytes[..length];
     if !text::read_decoded(input, &mut line, file)? {
         return Ok(false);
     }
+    let Some(case) = Case::of(header) else {
+        return Ok(false);
+    };
     let mut space = [255u8; MAX_BUFFER];
     let buffer = &mut space[..case.buffer];
     match case.call {

@@ -45,10 +45,10 @@ impl Call {
     }
 }
 
-// A case's header: the call, the lengths of the case's parts, the budget and the length of the answer buffer.
+// A case's header: the call's letter, the lengths of the case's parts, the budget and the length of the answer buffer.
 #[derive(Drop)]
 struct Header {
-    call: Call,
+    letter: u8,
     length0: usize,
     length1: usize,
     settings: usize,
@@ -65,7 +65,7 @@ impl Header {
             return None;
         }
         Some(Header {
-            call: Call::named(header[0])?,
+            letter: header[0],
             length0: number_within(&header[6..12], MAX_FILE)?,
             length1: number_within(&header[12..18], MAX_FILE)?,
             settings: number_within(&header[18..24], MAX_SETTINGS)?,
@@ -332,7 +332,8 @@ fn top_of(kind: u8, position: usize) -> Top {
     }
 }
 
-// Reads the parts of a case and answers the case. Is it one?
+// Reads the parts of a case and answers the case. Is it one? The call is looked at when the line is read: no part of a case is left in
+// the input.
 fn answer<R: Read, W: Write>(input: &mut R, out: &mut W, header: &[u8]) -> io::Result<bool> {
     let Some(header) = Header::of(header) else {
         return Ok(false);
@@ -343,10 +344,13 @@ fn answer<R: Read, W: Write>(input: &mut R, out: &mut W, header: &[u8]) -> io::R
     if !text::read_decoded(input, &mut line, bytes)? {
         return Ok(false);
     }
+    let Some(call) = Call::named(header.letter) else {
+        return Ok(false);
+    };
     let case = header.split(bytes);
     let mut space = [255u8; MAX_BUFFER];
     let buffer = &mut space[..header.buffer];
-    match header.call {
+    match call {
         Call::Start => case.start(out)?,
         Call::Continue => return case.continue_search(out, buffer),
         Call::Check => case.check(out)?,
